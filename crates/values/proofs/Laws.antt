@@ -1,0 +1,80 @@
+-- Laws on tests, words, parts of a list and stores in a row.
+use Prim.Native.Nat.{ℕ, zero, suc, _+_, _-_, _*_, _/_, _%_, _≤_, _<_}
+use mathlib.Core.List.{List, [], _∷_, _++_, append-assoc}
+use mathlib.Core.Path.{_≡_, refl, sym, ap, _∙_}
+use mathlib.Core.Bool.{Bool, true, false}
+use native.Mathlib.Nat.{add-zero, sub-zero, zero-add, suc-add, add-suc, lt-of-not-le}
+use native.Mathlib.Numerals.{add-one}
+use native.Mathlib.Decide.{decLe}
+use native.Mathlib.Omega.{arith}
+use lib.ListN.{length, getD, take, drop, set, length-append, length-take, length-drop, length-set, drop-of-length-le}
+use lib.Seq.{drop-cons, sets, length-sets, sets-eq, getD-take, getD-drop, getD-append-add}
+use Rattle.values.specs.Tests.{pick, both, either}
+use Rattle.values.specs.Words.{word, long, twoBytes, fourBytes, part}
+
+-- TESTS
+
+-- a test that fails whenever b < a: where it passes, a ≤ b
+pub held : {r : Bool} (a b : ℕ) → (b < a → r ≡ false) → r ≡ true → a ≤ b
+held a b n e =
+    elim (decLe a b) [ yes h ↦ h | no h ↦ let q = n (lt-of-not-le h) in let z : _≡_ {A = ℕ} 0 1 = cc in omega arith ]
+
+-- WORDS
+
+-- two bytes of a number below 65536 give it back
+pub word-two : (n : ℕ) (s : List ℕ) → n < 65536 → word (twoBytes n ++ s) 0 ≡ n
+unfolding word
+word-two n s h = omega arith
+
+pub word-shift : (xs ys : List ℕ) (n : ℕ) → word (xs ++ ys) (length xs + n) ≡ word ys n
+unfolding word
+word-shift xs ys n =
+    let e : length xs + n + 1 ≡ length xs + (n + 1) = omega arith in
+    rw (getD-append-add xs ys n 0, e, getD-append-add xs ys (n + 1) 0)
+
+-- PARTS
+
+pub part-length : (s : List ℕ) (from n : ℕ) → from + n ≤ length s → length (part s from n) ≡ n
+part-length s from n h = simp (length-take, length-drop) (omega arith)
+
+pub part-cons : (s : List ℕ) (from n i : ℕ) → i < n → from + n ≤ length s
+    → part s (from + i) (n - i) ≡ getD s (from + i) 0 ∷ part s (from + (i + 1)) (n - (i + 1))
+part-cons s from n i h k =
+    let e : n - i ≡ suc (n - (i + 1)) = omega arith in
+    let f : from + (i + 1) ≡ suc (from + i) = omega arith in
+    let l : from + i < length s = omega arith in
+    rw (e, f, drop-cons s (from + i) 0 l)
+
+pub part-start : (s : List ℕ) (from n : ℕ) → part s (from + 0) (n - 0) ≡ part s from n
+part-start s from n = rw (add-zero, sub-zero)
+
+pub getD-part : (s : List ℕ) (from n i : ℕ) → i < n → getD (part s from n) i 0 ≡ getD s (from + i) 0
+getD-part s from n i h = rw (getD-take n (drop from s) i 0, getD-drop)
+
+pub word-part : (s : List ℕ) (from n i : ℕ) → i + 2 ≤ n → word (part s from n) i ≡ word s (from + i)
+unfolding word
+word-part s from n i h =
+    let a : i < n = omega arith in
+    let b : i + 1 < n = omega arith in
+    let e : from + i + 1 ≡ from + (i + 1) = omega arith in
+    rw (getD-part s from n i a, getD-part s from n (i + 1) b, e)
+
+-- STORES IN A ROW
+
+-- a turn of a loop that stores a run: the run that is left, from the place it has got to
+pub sets-turn : (m : List ℕ) (at i : ℕ) (vs : List ℕ) → i < length vs
+    → sets m (at + i) (drop i vs) ≡ sets (set m (at + i) (getD vs i 0)) (at + (i + 1)) (drop (i + 1) vs)
+sets-turn m at i vs h =
+    let e : at + (i + 1) ≡ suc (at + i) = omega arith in
+    rw (drop-cons vs i 0 h, e, add-one)
+
+-- nothing of the run is left
+pub sets-done : (m : List ℕ) (at : ℕ) (vs : List ℕ) (i : ℕ) → length vs ≤ i → sets m at (drop i vs) ≡ m
+sets-done m at vs i h = rw (drop-of-length-le vs h)
+
+-- one run after another is the two stored in a row
+pub sets-append : (m : List ℕ) (at : ℕ) (us vs : List ℕ) → sets m at (us ++ vs) ≡ sets (sets m at us) (at + length us) vs
+sets-append m at [] vs = rw add-zero
+sets-append m at (u ∷ us) vs =
+    let e : at + suc (length us) ≡ suc at + length us = omega arith in
+    rw e (sets-append (set m at u) (suc at) us vs)

@@ -1,0 +1,24 @@
+-- Big-endian numbers in a list of bytes, and runs of its bytes.
+use Prim.Native.Nat.{ℕ, _+_, _*_, _/_, _%_}
+use mathlib.Core.List.{List, [], _∷_}
+use lib.ListN.{getD, take, drop}
+
+-- the number of the two bytes at a place, the higher first
+unfoldable pub word : List ℕ → ℕ → ℕ
+word s at = getD s at 0 * 256 + getD s (at + 1) 0
+
+-- the number of the four bytes at a place
+unfoldable pub long : List ℕ → ℕ → ℕ
+long s at = word s at * 65536 + word s (at + 2)
+
+-- a number as two bytes, the higher first
+abbrev pub twoBytes : ℕ → List ℕ
+twoBytes n = n / 256 % 256 ∷ n % 256 ∷ []
+
+-- a number as four bytes
+abbrev pub fourBytes : ℕ → List ℕ
+fourBytes n = n / 16777216 % 256 ∷ n / 65536 % 256 ∷ n / 256 % 256 ∷ n % 256 ∷ []
+
+-- n bytes from a place on
+abbrev pub part : List ℕ → ℕ → ℕ → List ℕ
+part s from n = take n (drop from s)
