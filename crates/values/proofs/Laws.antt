@@ -14,6 +14,10 @@ use Rattle.values.specs.Words.{word, long, twoBytes, fourBytes, part}
 
 -- TESTS
 
+pub both-false : (b : Bool) → both b false ≡ false
+both-false true = refl
+both-false false = refl
+
 -- a test that fails whenever b < a: where it passes, a ≤ b
 pub held : {r : Bool} (a b : ℕ) → (b < a → r ≡ false) → r ≡ true → a ≤ b
 held a b n e =
@@ -33,6 +37,9 @@ word-shift xs ys n =
     rw (getD-append-add xs ys n 0, e, getD-append-add xs ys (n + 1) 0)
 
 -- PARTS
+
+pub drop-turn : (s : List ℕ) (i : ℕ) → i < length s → drop i s ≡ getD s i 0 ∷ drop (i + 1) s
+drop-turn s i h = rw (add-one, drop-cons s i 0 h)
 
 pub part-length : (s : List ℕ) (from n : ℕ) → from + n ≤ length s → length (part s from n) ≡ n
 part-length s from n h = simp (length-take, length-drop) (omega arith)

@@ -1,0 +1,5 @@
+-- The laws that callers cite: Laws on the reader's answers, Turns on a loop over the records, RoundTrip on reading what was written.
+pub mod Laws
+pub mod Header
+pub mod Turns
+-- pub mod RoundTrip
