@@ -2,4 +2,4 @@
 pub mod Laws
 pub mod Header
 pub mod Turns
--- pub mod RoundTrip
+pub mod RoundTrip

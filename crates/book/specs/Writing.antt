@@ -1,8 +1,9 @@
 -- A book's bytes, from its entry and records.
-use Prim.Native.Nat.{ℕ, _+_, _<_}
+use Prim.Native.Nat.{ℕ, _+_}
 use mathlib.Core.List.{List, [], _∷_, _++_}
 use mathlib.Core.Bool.{Bool, true}
 use lib.ListN.{length}
+use lib.Dec.{leb}
 use Rattle.values.specs.Tests.{both}
 use Rattle.values.specs.Words.{twoBytes, fourBytes}
 use Rattle.book.specs.declared.Entry.{Entry}
@@ -28,6 +29,11 @@ entryBytes (At e) = 1 ∷ twoBytes (e .0)
 -- the length of the rest, version 1, the entry, the records
 unfoldable pub bookBytes : Book → List ℕ
 bookBytes b = fourBytes (4 + length (recordsBytes (b .records))) ++ (1 ∷ (entryBytes (b .entry) ++ recordsBytes (b .records)))
+
+-- an entry that two bytes can hold
+abbrev pub entryFits : Entry → Bool
+entryFits Absent = true
+entryFits (At e) = leb (e .0) 65535
 
 -- records each of which may follow the one before
 unfoldable pub fairAll : ℕ → List Record → Bool

@@ -8,7 +8,7 @@ use native.Mathlib.Numerals.{add-one}
 use native.Mathlib.Decide.{decLe}
 use native.Mathlib.Omega.{arith}
 use lib.ListN.{length, getD, take, drop, set, length-append, length-take, length-drop, length-set, drop-of-length-le}
-use lib.Seq.{drop-cons, sets, length-sets, sets-eq, getD-take, getD-drop, getD-append-add}
+use lib.Seq.{drop-cons, sets, length-sets, sets-eq, getD-take, getD-drop, getD-append-add, drop-append-add}
 use Rattle.values.specs.Tests.{pick, both, either}
 use Rattle.values.specs.Words.{word, long, twoBytes, fourBytes, part}
 
@@ -29,6 +29,10 @@ held a b n e =
 pub word-two : (n : ℕ) (s : List ℕ) → n < 65536 → word (twoBytes n ++ s) 0 ≡ n
 unfolding word
 word-two n s h = omega arith
+
+pub both-true : (a b : Bool) → both a b ≡ true → (a ≡ true) × (b ≡ true)
+both-true true b e = (refl, e)
+both-true false b e = let z : _≡_ {A = ℕ} 0 1 = cc in absurd (omega arith)
 
 pub word-shift : (xs ys : List ℕ) (n : ℕ) → word (xs ++ ys) (length xs + n) ≡ word ys n
 unfolding word
@@ -65,6 +69,15 @@ word-part s from n i h =
     let b : i + 1 < n = omega arith in
     let e : from + i + 1 ≡ from + (i + 1) = omega arith in
     rw (getD-part s from n i a, getD-part s from n (i + 1) b, e)
+
+-- behind the first list a part is one of the second
+pub part-shift : (xs ys : List ℕ) (from n : ℕ) → part (xs ++ ys) (length xs + from) n ≡ part ys from n
+part-shift xs ys from n = rw (drop-append-add xs ys from)
+
+-- a number of four bytes is given back
+pub long-four : (n : ℕ) (s : List ℕ) → n < 4294967296 → long (fourBytes n ++ s) 0 ≡ n
+unfolding long word
+long-four n s h = omega arith
 
 -- STORES IN A ROW
 

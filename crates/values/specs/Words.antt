@@ -1,6 +1,6 @@
 -- Big-endian numbers in a list of bytes, and runs of its bytes.
 use Prim.Native.Nat.{ℕ, _+_, _*_, _/_, _%_}
-use mathlib.Core.List.{List, [], _∷_}
+use mathlib.Core.List.{List, [], _∷_, _++_}
 use lib.ListN.{getD, take, drop}
 
 -- the number of the two bytes at a place, the higher first
@@ -17,7 +17,7 @@ twoBytes n = n / 256 % 256 ∷ n % 256 ∷ []
 
 -- a number as four bytes
 abbrev pub fourBytes : ℕ → List ℕ
-fourBytes n = n / 16777216 % 256 ∷ n / 65536 % 256 ∷ n / 256 % 256 ∷ n % 256 ∷ []
+fourBytes n = twoBytes (n / 65536) ++ twoBytes (n % 65536)
 
 -- n bytes from a place on
 abbrev pub part : List ℕ → ℕ → ℕ → List ℕ
