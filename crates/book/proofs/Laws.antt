@@ -191,7 +191,7 @@ module _ (s : List ℕ) (at last : ℕ) where
   pub step-found : (rest card address count : ℕ) → rest ≡ restAt s at → card ≡ cardAt s at → address ≡ addressAt s at → count ≡ countAt s at
       → (at ≡ length s → ⊥) → recordOk s at last ≡ true
       → Step.Record
-          (record { card = card; address = record { 0 = address }; fields = at + 7; count = count; text = at + 7 + count; size = rest - (5 + count) })
-          (record { at = at + 2 + rest; card = card })
-        ≡ stepAt s at last
+      (record { card = card; address = record { 0 = address }; fields = at + 7; count = count; text = at + 7 + count; size = rest - (5 + count) })
+      (record { at = at + 2 + rest; card = card })
+      ≡ stepAt s at last
   step-found rest card address count r c a n h e = rw (r, c, a, n) (step-record h e)

@@ -148,9 +148,12 @@ module _ (s : List ℕ) (e : Entry) (at last : ℕ) (l : LayoutLeft s e at last)
       let g = gave s at last p c q in
       let g-on = g .on in
       let g-within = g .within in
-      let one : f ≡ suc (f - 1) = omega arith in
-      (f - 1, omega arith, same ∙ ap (λ n. layoutIn (withEntry e (recordsFrom n s at last))) one ∙ ap (λ o. layoutIn (withEntry e o)) (turn-record s at last (f - 1) p c q)
-        ∙ layout-onto e (recordOf s p) (recordsFrom (f - 1) s (c .at) (c .card)))
+      let one : f ≡ suc (f - 1) = omega arith in (
+        f - 1,
+        omega arith,
+        same ∙ ap (λ n. layoutIn (withEntry e (recordsFrom n s at last))) one ∙ ap (λ o. layoutIn (withEntry e o)) (turn-record s at last (f - 1) p c q)
+            ∙ layout-onto e (recordOf s p) (recordsFrom (f - 1) s (c .at) (c .card)),
+      )
 
   pub layout-end : End ≡ stepAt s at last → Whole e ≡ layoutOf s
   layout-end q =

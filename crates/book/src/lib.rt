@@ -125,13 +125,7 @@ impl Cursor {
             text,
             size,
         };
-        Step::Record(
-            place,
-            Cursor {
-                at: behind,
-                card,
-            },
-        )
+        Step::Record(place, Cursor { at: behind, card })
     }
 }
 

@@ -1,6 +1,6 @@
 -- Laws on tests, words, parts of a list and stores in a row.
 use Prim.Native.Nat.{ℕ, zero, suc, _+_, _-_, _*_, _/_, _%_, _≤_, _<_}
-use mathlib.Core.List.{List, [], _∷_, _++_, append-assoc}
+use mathlib.Core.List.{List, [], _∷_, _++_, append-assoc, append-nil}
 use mathlib.Core.Path.{_≡_, refl, sym, ap, _∙_}
 use mathlib.Core.Bool.{Bool, true, false}
 use native.Mathlib.Nat.{add-zero, sub-zero, zero-add, suc-add, add-suc, lt-of-not-le}
@@ -8,7 +8,7 @@ use native.Mathlib.Numerals.{add-one}
 use native.Mathlib.Decide.{decLe}
 use native.Mathlib.Omega.{arith}
 use lib.ListN.{length, getD, take, drop, set, length-append, length-take, length-drop, length-set, drop-of-length-le}
-use lib.Seq.{drop-cons, sets, length-sets, sets-eq, getD-take, getD-drop, getD-append-add, drop-append-add}
+use lib.Seq.{drop-cons, sets, length-sets, sets-eq, getD-take, getD-drop, getD-append-add, drop-append-add, set-append-left, length-take-le}
 use Rattle.values.specs.Tests.{pick, both, either}
 use Rattle.values.specs.Words.{word, long, twoBytes, fourBytes, part}
 
@@ -47,6 +47,13 @@ drop-turn s i h = rw (add-one, drop-cons s i 0 h)
 
 pub part-length : (s : List ℕ) (from n : ℕ) → from + n ≤ length s → length (part s from n) ≡ n
 part-length s from n h = simp (length-take, length-drop) (omega arith)
+
+-- a part as it is lent, by its start and its end
+pub part-between : (s : List ℕ) (from n : ℕ) → take (from + n - from) (drop from s) ≡ part s from n
+part-between s from n = let e : from + n - from ≡ n = omega arith in rw e
+
+pub between-length : (s : List ℕ) (from n : ℕ) → from + n ≤ length s → length (take (from + n - from) (drop from s)) ≡ n
+between-length s from n h = rw (part-between s from n) (part-length s from n h)
 
 pub part-cons : (s : List ℕ) (from n i : ℕ) → i < n → from + n ≤ length s
     → part s (from + i) (n - i) ≡ getD s (from + i) 0 ∷ part s (from + (i + 1)) (n - (i + 1))
@@ -98,3 +105,34 @@ sets-append m at [] vs = rw add-zero
 sets-append m at (u ∷ us) vs =
     let e : at + suc (length us) ≡ suc at + length us = omega arith in
     rw e (sets-append (set m at u) (suc at) us vs)
+
+set-append-add : (xs ys : List ℕ) (i v : ℕ) → set (xs ++ ys) (length xs + i) v ≡ xs ++ set ys i v
+set-append-add [] ys i v = rw (zero-add i)
+set-append-add (x ∷ xs) ys i v = rw (suc-add (length xs) i) (ap (λ l. x ∷ l) (set-append-add xs ys i v))
+
+-- a store into a run that was stored is a store into the run
+set-sets : (m : List ℕ) (to : ℕ) (vs : List ℕ) (i v : ℕ) → to + length vs ≤ length m → i < length vs → set (sets m to vs) (to + i) v ≡ sets m to (set vs i v)
+set-sets m to vs i v h k =
+    let t = length-take-le to m (omega arith) in
+    let l = length-append (take to m) vs in
+    let at : to + i ≡ length (take to m) + i = omega arith in
+    let inside : to + i < length (take to m ++ vs) = omega arith in
+    let e = length-set vs i v in
+    rw (sets-eq vs m to h, set-append-left (take to m ++ vs) (drop (to + length vs) m) (to + i) v inside, at, set-append-add (take to m) vs i v)
+    (sym (rw (sets-eq (set vs i v) m to (omega arith), e)))
+
+pub sets-sets : (m : List ℕ) (to : ℕ) (vs : List ℕ) (i : ℕ) (ws : List ℕ) → to + length vs ≤ length m → i + length ws ≤ length vs
+    → sets (sets m to vs) (to + i) ws ≡ sets m to (sets vs i ws)
+sets-sets m to vs i [] h k = refl
+sets-sets m to vs i (w ∷ ws) h k =
+    let s : suc (to + i) ≡ to + suc i = omega arith in
+    let e = length-set vs i w in
+    rw (set-sets m to vs i w h (omega arith), s) (sets-sets m to (set vs i w) (suc i) ws (omega arith) (omega arith))
+
+sets-whole : (vs ws : List ℕ) → length ws ≡ length vs → sets vs 0 ws ≡ ws
+sets-whole vs ws e = rw (sets-eq ws vs 0 (omega arith), zero-add, drop-of-length-le vs {i = length ws} (omega arith)) (append-nil ws)
+
+-- a run over one of the same length takes its place
+pub sets-over : (m : List ℕ) (to : ℕ) (vs ws : List ℕ) → to + length vs ≤ length m → length ws ≡ length vs → sets (sets m to vs) to ws ≡ sets m to ws
+sets-over m to vs ws h e =
+    ap (λ n. sets (sets m to vs) n ws) (sym (add-zero to)) ∙ sets-sets m to vs 0 ws h (omega arith) ∙ ap (λ l. sets m to l) (sets-whole vs ws e)

@@ -37,6 +37,7 @@ left : (c : tie.After-wide Inv-loop μ-loop)
 left c =
     let a = c .before .before .before .before .before .args in let l = c .before .before .before .loop in
     l .inv .1 ∙ ap (λ os. fieldsFit (l .least) (a .size) os) (drop-turn (a .offsets .now) (l .i) (omega arith) ∙ ap (λ o. o ∷ drop (l .i + 1) (a .offsets .now)) (sym (c .wide .ensures .0)))
+
 --H>
 
 -- src/lib.rt:57:13

@@ -68,6 +68,7 @@ enum-known-behind c = search needs
 -- the record that the reader gave
 read : (c : tie.After-behind Inv-loop μ-loop) → Step.Record (c .behind .given .0 .0) (c .behind .given .0 .1 .0) ≡ stepAt (c .before .before .before .before .before .before .before .before .before .before .args .book .now) (c .before .before .before .loop .cursor .at) (c .before .before .before .loop .cursor .card)
 read c = sym (c .behind .given .1) ∙ c .before .before .next .ensures
+
 --H>
 
 -- src/lib.rt:173:13

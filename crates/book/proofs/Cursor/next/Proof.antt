@@ -20,6 +20,7 @@ use Rattle.values.proofs.words.word_at.Reads as word-at-reads
 --<H
 rest : (c : tie.After-wide16) → c .wide16 .result ≡ restAt (c .before .before .before .before .before .before .args .book .now) (c .before .before .before .before .before .before .args .self .at)
 rest c = c .wide16 .ensures .0 ∙ c .before .word-at .ensures
+
 --H>
 
 -- src/lib.rt:83:13
@@ -157,6 +158,7 @@ fit c = c .fields-fit .ensures ∙ fields-lent (c .before .before .before .befor
 
 whole : (c : tie.Else10) → recordOk (c .before .before .before .before .before .before .before .before .before .before .before .before .before .before .before .before .before .before .before .before .args .book .now) (c .before .before .before .before .before .before .before .before .before .before .before .before .before .before .before .before .before .before .before .before .args .self .at) (c .before .before .before .before .before .before .before .before .before .before .before .before .before .before .before .before .before .before .before .before .args .self .card) ≡ true
 whole c = all-passed _ _ _ (omega arith) (omega arith) (omega arith) (omega arith) (omega arith) (omega arith) (sym (fit (c .before)) ∙ not-false _ (c .if10 .left))
+
 --H>
 
 -- src/lib.rt:118:13
@@ -165,12 +167,12 @@ returns-10 c = step-broken _ _ _ (omega arith) (no-fields _ _ _ (sym (fit (c .be
 
 -- src/lib.rt:77:5
 returns-11 : tie.Need-returns-11
-returns-11 c = 
+returns-11 c =
     let a = c .before .before .before .before .before .before .before .before .before .before .before .before .before .before .before .before .before .before .before .before .args in
     let r = rest (c .before .before .before .before .before .before .before .before .before .before .before .before .before .before) in
     let n : c .before .before .before .before .before .before .before .before .before .before .before .wide .result ≡ countAt (a .book .now) (a .self .at) = c .before .before .before .before .before .before .before .before .before .before .before .wide .ensures .0 in
     step-found _ _ _ (c .before .before .before .before .before .before .before .before .before .before .before .before .before .before .wide16 .result) (c .before .before .before .before .before .before .before .before .word-at2 .result) (c .before .before .before .before .before .word-at3 .result) (c .before .before .before .before .before .before .before .before .before .before .before .wide .result)
-      r (c .before .before .before .before .before .before .before .before .word-at2 .ensures) (c .before .before .before .before .before .word-at3 .ensures) n (omega arith) (whole c)
+    r (c .before .before .before .before .before .before .before .before .word-at2 .ensures) (c .before .before .before .before .before .word-at3 .ensures) n (omega arith) (whole c)
 
 pub next-spec : {M : Type 1} → statement M
 next-spec =

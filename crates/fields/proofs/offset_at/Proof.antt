@@ -1,0 +1,35 @@
+use native.Mathlib.Omega.{arith}
+use mathlib.Core.Path.{_≡_, sym, _∙_}
+use Rattle.values.proofs.Laws.{getD-part}
+use lib.ListN.{getD}
+use Rattle.book.specs.Reading.{recordOf}
+use Rattle.fields.proofs.Laws.{offset-inside}
+use borrow.Author.Needs.{needs}
+use Rattle.fields.proofs.offset_at.Statement.{statement}
+use Rattle.fields.proofs.offset_at.Tie as tie
+use Rattle.fields.proofs.offset_at.Reads as reads
+use Rattle.fields.proofs.offset_at.Lts as lts
+use Rattle.values.proofs.words.wide.Reads as wide-reads
+
+-- src/lib.rt:25:14
+add-at : tie.Need-add-at
+add-at c = search needs
+
+-- src/lib.rt:26:10
+shared-slice-read-wide : tie.Need-shared-slice-read-wide
+shared-slice-read-wide c = search needs
+
+-- src/lib.rt:26:5
+wide-requires : tie.Need-wide-requires
+wide-requires c κs = search needs
+
+-- src/lib.rt:21:1
+returns : tie.Need-returns
+returns c =
+    let a = c .before .before .before .before .args in
+    let e : c .wide .result ≡ getD (recordOf (a .book .now) (a .p) .fields) (a .i) 0 = c .wide .ensures .0 ∙ sym (getD-part (a .book .now) (a .p .fields) (a .p .count) (a .i) (omega arith)) in
+    let inside = offset-inside (a .book .now) (a .p) (c .before .before .before .before .pre .0) (a .i) (omega arith) in
+    (e, omega arith)
+
+pub offset-at-spec : {M : Type 1} → statement M
+offset-at-spec = tie.close (tie.spec add-at shared-slice-read-wide wide-requires returns)

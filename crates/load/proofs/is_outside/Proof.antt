@@ -1,0 +1,47 @@
+use borrow.Author.Needs.{needs}
+use Rattle.load.proofs.is_outside.Statement.{statement}
+use Rattle.load.proofs.is_outside.Tie as tie
+use Rattle.load.proofs.is_outside.Reads as reads
+use Rattle.load.proofs.is_outside.Lts as lts
+use Rattle.values.proofs.Relocatable.plus.Reads as plus-reads
+use Rattle.values.proofs.words.wide16.Reads as wide16-reads
+
+-- src/lib.rt:49:11
+plus-requires : tie.Need-plus-requires
+plus-requires c κs = search needs
+
+-- src/lib.rt:50:24
+enum-told : tie.Need-enum-told
+enum-told c = search needs
+
+-- src/lib.rt:51:19
+enum-known-address : tie.Need-enum-known-address
+enum-known-address c = search needs
+
+-- src/lib.rt:51:38
+wide16-requires : tie.Need-wide16-requires
+wide16-requires c κs = search needs
+
+-- src/lib.rt:51:38
+add-result : tie.Need-add-result
+add-result c = search needs
+
+-- src/lib.rt:45:1
+returns : tie.Need-returns
+returns c = ?
+
+-- src/lib.rt:45:1
+returns-2 : tie.Need-returns-2
+returns-2 c = ?
+
+pub is-outside-spec : {M : Type 1} → statement M
+is-outside-spec =
+    tie.close
+    (tie.spec
+    plus-requires
+    enum-told
+    enum-known-address
+    wide16-requires
+    add-result
+    returns
+    returns-2)

@@ -1,0 +1,47 @@
+use borrow.Author.Needs.{needs}
+use Rattle.load.proofs.load_book.Statement.{statement}
+use Rattle.load.proofs.load_book.Tie as tie
+use Rattle.load.proofs.load_book.Reads as reads
+use Rattle.load.proofs.load_book.Lts as lts
+use Rattle.book.proofs.read_layout.Reads as read-layout-reads
+use Rattle.load.proofs.load_whole.Reads as load-whole-reads
+
+-- src/lib.rt:165:11
+read-layout-requires : tie.Need-read-layout-requires
+read-layout-requires c κs = search needs
+
+-- src/lib.rt:166:27
+enum-told : tie.Need-enum-told
+enum-told c = search needs
+
+-- src/lib.rt:167:23
+enum-known-entry : tie.Need-enum-known-entry
+enum-known-entry c = search needs
+
+-- src/lib.rt:167:33
+load-whole-requires : tie.Need-load-whole-requires
+load-whole-requires c κs = ?
+
+-- src/lib.rt:161:1
+returns : tie.Need-returns
+returns c = ?
+
+-- src/lib.rt:161:1
+same-length : tie.Need-same-length
+same-length c = search needs
+
+-- src/lib.rt:161:1
+returns-2 : tie.Need-returns-2
+returns-2 c = ?
+
+pub load-book-spec : {M : Type 1} → statement M
+load-book-spec =
+    tie.close
+    (tie.spec
+    read-layout-requires
+    enum-told
+    enum-known-entry
+    load-whole-requires
+    returns
+    same-length
+    returns-2)
