@@ -215,6 +215,11 @@ module _ (s : List ℕ) (at last : ℕ) (P : List Record → Type 0) (l : Left s
       go zero rs is holds = absurd (out-of-bound s at last rs is)
       go (suc f) rs is holds = there f rs (recordsFrom f s (c .at) (c .card)) refl (sym (turn-record s at last f p c q) ∙ is) holds
 
+  pub first : (p : Place) (c : Cursor) → Step.Record p c ≡ stepAt s at last → (rest : List Record) × P (recordOf s p ∷ rest)
+  first p c q =
+      let (f, rest, is, holds) = onward p c (λ rest. P (recordOf s p ∷ rest)) q (λ rest h. h) in
+      (rest, holds)
+
   pub ended : End ≡ stepAt s at last → P []
   ended q = let (f, rs, is, holds) = l in go f rs is holds
     where

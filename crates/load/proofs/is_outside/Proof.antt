@@ -1,3 +1,9 @@
+use native.Mathlib.Omega.{arith}
+use mathlib.Core.Path.{_≡_, refl, sym, ap, subst, _∙_}
+use Prim.Native.Nat.{_+_}
+use lib.Dec.{ltb}
+use borrow.Author.Tests.{lt-ltb}
+use Rattle.fields.proofs.Laws.{moved-over, moved-to}
 use borrow.Author.Needs.{needs}
 use Rattle.load.proofs.is_outside.Statement.{statement}
 use Rattle.load.proofs.is_outside.Tie as tie
@@ -28,11 +34,14 @@ add-result c = search needs
 
 -- src/lib.rt:45:1
 returns : tie.Need-returns
-returns c = ?
+returns c = let a = c .before .before .before .args in
+    let over = moved-over _ _ (sym (c .enum-told .given .1) ∙ c .before .before .plus .ensures) in
+    sym (lt-ltb (a .room) (a .p .address .0 + a .d .0 + a .p .size) (omega arith))
 
 -- src/lib.rt:45:1
 returns-2 : tie.Need-returns-2
-returns-2 c = ?
+returns-2 c = let a = c .before .before .before .before .before .before .args in
+    ap (λ n. ltb (a .room) (n + a .p .size)) (c .before .wide16 .ensures .0 ∙ moved-to _ _ _ (sym (c .before .before .before .address .given .1) ∙ c .before .before .before .before .before .plus .ensures) .0)
 
 pub is-outside-spec : {M : Type 1} → statement M
 is-outside-spec =

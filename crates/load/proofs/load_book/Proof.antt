@@ -1,4 +1,7 @@
 use borrow.Author.Needs.{needs}
+use native.Mathlib.Omega.{arith}
+use mathlib.Core.Path.{_≡_, refl, sym, ap, subst, _∙_}
+use Rattle.load.proofs.Laws.{is-broken, is-whole, by-outcome}
 use Rattle.load.proofs.load_book.Statement.{statement}
 use Rattle.load.proofs.load_book.Tie as tie
 use Rattle.load.proofs.load_book.Reads as reads
@@ -20,11 +23,11 @@ enum-known-entry c = search needs
 
 -- src/lib.rt:167:33
 load-whole-requires : tie.Need-load-whole-requires
-load-whole-requires c κs = ?
+load-whole-requires c κs = sym (c .before .before .entry .given .1) ∙ c .before .before .before .before .read-layout .ensures
 
 -- src/lib.rt:161:1
 returns : tie.Need-returns
-returns c = ?
+returns c = by-outcome _ _ _ _ (is-broken _ _ _ (sym (c .enum-told .given .1) ∙ c .before .before .read-layout .ensures)) refl refl
 
 -- src/lib.rt:161:1
 same-length : tie.Need-same-length
@@ -32,7 +35,7 @@ same-length c = search needs
 
 -- src/lib.rt:161:1
 returns-2 : tie.Need-returns-2
-returns-2 c = ?
+returns-2 c = by-outcome _ _ _ _ (is-whole _ _ _ _ (sym (c .before .before .before .before .before .entry .given .1) ∙ c .before .before .before .before .before .before .before .read-layout .ensures)) (c .before .before .load-whole .ensures .0) (c .before .before .load-whole .ensures .1)
 
 pub load-book-spec : {M : Type 1} → statement M
 load-book-spec =

@@ -1,0 +1,124 @@
+-- Laws on the definitions of loading: a turn of each loop over the records, and each outcome.
+use Prim.Native.Nat.{ℕ, _+_, _*_, _≤_, _<_}
+use mathlib.Core.List.{List, [], _∷_}
+use mathlib.Core.Path.{_≡_, refl, sym, ap, _∙_}
+use mathlib.Core.Bool.{Bool, true, false}
+use mathlib.Core.Option.{Option, none, some}
+use native.Mathlib.Omega.{arith}
+use native.Mathlib.Nat.{add-assoc}
+use lib.ListN.{length}
+use lib.Dec.{ltb, eqb}
+use lib.Seq.{sets}
+use borrow.Author.Tests.{eq-eqb, ne-eqb, ltb-false}
+use Rattle.values.specs.Tests.{pick}
+use Rattle.values.specs.declared.Displacement.{Displacement}
+use Rattle.values.specs.declared.Relocatable.{Relocatable}
+use Rattle.values.specs.declared.Moved.{Moved}
+use Rattle.values.specs.declared.Moved.the-variants.{To}
+use Rattle.values.specs.Values.{movedBy}
+use Rattle.book.specs.Book.{Record, Book, bookOf}
+use Rattle.book.specs.declared.Entry.{Entry}
+use Rattle.book.specs.declared.Entry.the-variants.{Absent, At}
+use Rattle.book.specs.declared.Layout.{Layout}
+use Rattle.book.specs.Reading.{layoutOf, layoutIn, recordsIn}
+use Rattle.book.proofs.Turns.{book-is}
+use Rattle.fields.specs.Fields.{overField, movedText}
+use Rattle.load.specs.declared.Loaded.{Loaded}
+use Rattle.load.specs.declared.Loaded.the-variants.{Stored, Broken, Outside, Over}
+use Rattle.load.specs.Load.{Outcome, firstCard, outside, roomIn, stored, storedAll, bytesStored, refused, accepted, entered, enteredAt, judged, ofBook, loading}
+
+-- THE FIRST RECORD THAT FAILS
+
+module _ (fails : Record → Bool) where
+  pub first-hit : (r : Record) (rs : List Record) → fails r ≡ true → firstCard fails (r ∷ rs) ≡ r .card
+  unfolding firstCard
+  first-hit r rs e = rw e
+
+  pub first-miss : (r : Record) (rs : List Record) → fails r ≡ false → firstCard fails (r ∷ rs) ≡ firstCard fails rs
+  unfolding firstCard
+  first-miss r rs e = rw e
+
+  pub first-none : firstCard fails [] ≡ 0
+  unfolding firstCard
+  first-none = refl
+
+  -- where none fails, the first doesn't
+  pub none-fails : (r : Record) (rs : List Record) → 1 ≤ r .card → firstCard fails (r ∷ rs) ≡ 0 → (fails r ≡ false) × (firstCard fails rs ≡ 0)
+  none-fails r rs h e = go (fails r) refl
+    where
+      go : (b : Bool) → fails r ≡ b → (fails r ≡ false) × (firstCard fails rs ≡ 0)
+      go true k = let n = first-hit r rs k in absurd (omega arith)
+      go false k = (k, sym (first-miss r rs k) ∙ e)
+
+-- STORING
+
+pub stored-is : (d : ℕ) (r : Record) (m : List ℕ) → stored d r m ≡ sets m (r .address + d) (movedText d r)
+unfolding stored
+stored-is d r m = refl
+
+pub stored-first : (d : ℕ) (r : Record) (rs : List Record) (m : List ℕ) → storedAll d (r ∷ rs) m ≡ storedAll d rs (stored d r m)
+unfolding storedAll
+stored-first d r rs m = refl
+
+pub stored-none : (d : ℕ) (m : List ℕ) → storedAll d [] m ≡ m
+unfolding storedAll
+stored-none d m = refl
+
+pub bytes-first : (r : Record) (rs : List Record) → bytesStored (r ∷ rs) ≡ length (r .text) + bytesStored rs
+unfolding bytesStored
+bytes-first r rs = refl
+
+pub bytes-none : bytesStored [] ≡ 0
+unfolding bytesStored
+bytes-none = refl
+
+-- what is left to store: the whole storage and the whole count are those of the rest, from the storage and the count now
+pub record Still (d : ℕ) (room : ℕ) (whole : List ℕ) (sum : ℕ) (m : List ℕ) (count : ℕ) (rs : List Record) : Type 0 where
+  pub storage : whole ≡ storedAll d rs m
+  pub bytes : sum ≡ count + bytesStored rs
+  pub inside : firstCard (outside d room) rs ≡ 0
+  pub under : firstCard (overField d) rs ≡ 0
+
+pub still-first : (d room : ℕ) (whole : List ℕ) (sum : ℕ) (m m′ : List ℕ) (count size : ℕ) (r : Record) (rest : List Record)
+    → Still d room whole sum m count (r ∷ rest) → 1 ≤ r .card → length (r .text) ≡ size → m′ ≡ stored d r m → Still d room whole sum m′ (count + size) rest
+still-first d room whole sum m m′ count size r rest s card n is =
+    let b = s .bytes in
+    let f = bytes-first r rest in
+    record {
+      storage = s .storage ∙ stored-first d r rest m ∙ ap (λ l. storedAll d rest l) (sym is);
+      bytes = omega arith;
+      inside = none-fails (outside d room) r rest card (s .inside) .1;
+      under = none-fails (overField d) r rest card (s .under) .1;
+    }
+
+-- THE OUTCOMES
+
+module _ (e : Entry) (d : Displacement) (rs : List Record) (m : List ℕ) where
+  pub is-outside : (firstCard (outside (d .0) (roomIn m)) rs ≡ 0 → ⊥) → judged e d rs m ≡ refused (Outside (firstCard (outside (d .0) (roomIn m)) rs)) m
+  unfolding judged
+  is-outside n = rw (ne-eqb _ _ n)
+
+  module _ (inside : firstCard (outside (d .0) (roomIn m)) rs ≡ 0) where
+    pub is-over : (firstCard (overField (d .0)) rs ≡ 0 → ⊥) → judged e d rs m ≡ refused (Over (firstCard (overField (d .0)) rs)) m
+    unfolding judged
+    is-over n = rw (eq-eqb _ _ inside, ne-eqb _ _ n)
+
+    pub is-entered : firstCard (overField (d .0)) rs ≡ 0 → judged e d rs m ≡ entered e d rs m
+    unfolding judged
+    is-entered u = rw (eq-eqb _ _ inside, eq-eqb _ _ u)
+
+-- an answer and a storage that are an outcome's
+pub by-outcome : (o p : Outcome) (r : Loaded) (m : List ℕ) → o ≡ p → r ≡ p .answer → m ≡ p .storage → (r ≡ o .answer) × (m ≡ o .storage)
+by-outcome o p r m e a b = rw e (a, b)
+
+pub is-broken : (s : List ℕ) (d : Displacement) (m : List ℕ) → Layout.Broken ≡ layoutOf s → loading s d m ≡ refused Broken m
+unfolding loading layoutOf
+is-broken s d m e = go (bookOf s) refl e
+  where
+    go : (o : Option Book) → bookOf s ≡ o → Layout.Broken ≡ layoutIn o → ofBook (bookOf s) d m ≡ refused Broken m
+    go none h k = rw h
+    go (some b) h k = let z : _≡_ {A = ℕ} 0 1 = cc in absurd (omega arith)
+
+pub is-whole : (s : List ℕ) (e : Entry) (d : Displacement) (m : List ℕ) → Layout.Whole e ≡ layoutOf s → loading s d m ≡ judged e d (recordsIn s) m
+unfolding loading
+is-whole s e d m q = rw (book-is s e q)

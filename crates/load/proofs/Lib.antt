@@ -1,0 +1,2 @@
+-- Laws on loading.
+pub mod Laws
