@@ -21,7 +21,7 @@ use values::words::wide16;
 
 pub enum Loaded {
     // The bytes stored, and the entry plus the displacement.
-    Stored(usize, Entry),
+    Stored(u32, Entry),
     // 50: the book breaks its layout.
     Broken,
     // 51: text outside storage, and the card of the first such record.
@@ -149,10 +149,13 @@ fn load_whole(book: &[u8], entry: Entry, d: Displacement, storage: &mut [u8]) ->
         return Loaded::Over(over);
     }
     match entry {
-        Entry::Absent => Loaded::Stored(store_all(book, d, storage), Entry::Absent),
+        Entry::Absent => Loaded::Stored(store_all(book, d, storage) as u32, Entry::Absent),
         Entry::At(start) => match start.plus(d) {
             Moved::Over => Loaded::Over(0),
-            Moved::To(moved) => Loaded::Stored(store_all(book, d, storage), Entry::At(moved)),
+            Moved::To(moved) => Loaded::Stored(
+                store_all(book, d, storage) as u32,
+                Entry::At(moved),
+            ),
         },
     }
 }

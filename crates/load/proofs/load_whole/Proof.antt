@@ -8,9 +8,8 @@ use Rattle.book.specs.declared.Entry.the-variants.{Absent, At}
 use Rattle.fields.specs.Fields.{overField}
 use Rattle.values.specs.Values.{movedBy}
 use Rattle.load.specs.declared.Loaded.the-variants.{Stored, Outside, Over}
-use Rattle.load.specs.Load.{firstCard, outside, roomIn, entered, enteredAt, judged, bytesStored, storedAll}
+use Rattle.load.specs.Load.{firstCard, outside, roomIn, entered, enteredAt, judged}
 use Rattle.load.proofs.Laws.{is-outside, is-over, is-entered, by-outcome}
-use Rattle.fields.proofs.Laws.{moved-over, moved-to}
 use Rattle.load.proofs.load_whole.Statement.{statement}
 use Rattle.load.proofs.load_whole.Tie as tie
 use Rattle.load.proofs.load_whole.Reads as reads
@@ -76,6 +75,10 @@ enum-told c = search needs
 store-all-requires : tie.Need-store-all-requires
 store-all-requires c κs = ((c .before .before .before .before .before .before .before .before .before .before .before .args .entry, c .before .before .before .before .before .before .before .before .before .before .before .pre), (inside (c .before .before .before .before .before), under (c .before .before .before)))
 
+-- src/lib.rt:152:41
+cast-t17 : tie.Need-cast-t17
+cast-t17 c = search needs
+
 -- src/lib.rt:153:19
 enum-known-entry : tie.Need-enum-known-entry
 enum-known-entry c = search needs
@@ -92,9 +95,13 @@ enum-told-2 c = search needs
 enum-known-moved : tie.Need-enum-known-moved
 enum-known-moved c = search needs
 
--- src/lib.rt:155:48
+-- src/lib.rt:156:17
 store-all-requires-2 : tie.Need-store-all-requires-2
 store-all-requires-2 c κs = ((c .before .before .before .before .before .before .before .before .before .before .before .before .before .before .before .before .args .entry, c .before .before .before .before .before .before .before .before .before .before .before .before .before .before .before .before .pre), (inside (c .before .before .before .before .before .before .before .before .before .before), under (c .before .before .before .before .before .before .before .before)))
+
+-- src/lib.rt:156:17
+cast-t24 : tie.Need-cast-t24
+cast-t24 c = search needs
 
 -- src/lib.rt:138:1
 same-length-3 : tie.Need-same-length-3
@@ -143,11 +150,13 @@ load-whole-spec =
     returns-2
     enum-told
     store-all-requires
+    cast-t17
     enum-known-entry
     plus-requires
     enum-told-2
     enum-known-moved
     store-all-requires-2
+    cast-t24
     same-length-3
     returns-3
     same-length-4

@@ -1,0 +1,45 @@
+// What the emulator calls: numbers and lent bytes in, packed answers out.
+ghost use mathlib.Core.Path.{_≡_};
+ghost use Prim.Native.Nat.{_<_, _^_};
+ghost use Rattle.values.specs.declared.Displacement.{Displacement};
+ghost use Rattle.load.specs.Load.{loading};
+ghost use Rattle.mersclund.specs.Packed.{packedRefusal, packedEntry, packedLoad};
+use book::Entry;
+use load::Loaded;
+use load::load_book;
+use values::Displacement;
+
+fn pack_refusal(number: u8, card: u16) -> u64
+    ensures { λ r. ⌜ r ≡ packedRefusal number card ⌝ }
+{
+    number as u64 * 72057594037927936 + card as u64
+}
+
+fn pack_entry(entry: Entry) -> u64
+    ensures { λ r. ⌜ (r ≡ packedEntry entry) × (r < 2 ^ 49) ⌝ }
+{
+    match entry {
+        Entry::Absent => 0,
+        Entry::At(start) => 281474976710656 + start.0 as u64 * 4294967296,
+    }
+}
+
+fn pack_load(answer: Loaded) -> u64
+    ensures { λ r. ⌜ r ≡ packedLoad answer ⌝ }
+{
+    match answer {
+        Loaded::Stored(bytes, entry) => bytes as u64 + pack_entry(entry),
+        Loaded::Broken => pack_refusal(50, 0),
+        Loaded::Outside(card) => pack_refusal(51, card),
+        Loaded::Over(card) => pack_refusal(52, card),
+    }
+}
+
+// Loads any book, moved by any displacement, into any storage.
+#[no_mangle]
+pub extern "C" fn mersclund_load(book: &[u8], displacement: u16, storage: &mut [u8]) -> u64
+    ensures { λ r. ⌜ r ≡ packedLoad (loading (now (book .entry)) (record { 0 = displacement }) (now (storage .entry)) .answer) ⌝ }
+    ensures { λ _. ⌜ now (storage .exit) ≡ loading (now (book .entry)) (record { 0 = displacement }) (now (storage .entry)) .storage ⌝ }
+{
+    pack_load(load_book(book, Displacement(displacement), storage))
+}
