@@ -9,7 +9,7 @@ use lib.Dec.{ltb, leb, eqb}
 use borrow.Author.Tests.{lt-ltb, le-ltb, le-leb, lt-leb, eq-eqb, ne-eqb, leb-true, ltb-true, eqb-true}
 use Rattle.values.specs.Tests.{pick, both}
 use Rattle.values.specs.Words.{word, long, part}
-use Rattle.values.proofs.Laws.{held, both-false, part-length}
+use Rattle.values.proofs.Laws.{held, both-false, both-true, part-length}
 use Rattle.book.specs.declared.Cursor.{Cursor}
 use Rattle.book.specs.declared.Place.{Place}
 use Rattle.book.specs.declared.Step.{Step}
@@ -34,6 +34,18 @@ fields-more least size o os h k = rw (le-leb _ _ h, le-leb _ _ k)
 pub fields-none : (least size : ℕ) → fieldsFit least size [] ≡ true
 unfolding fieldsFit
 fields-none least size = refl
+
+-- offsets that fit are few
+pub fields-few : (least size : ℕ) (os : List ℕ) → fieldsFit least size os ≡ true → least ≤ size → least + 2 * length os ≤ size
+unfolding fieldsFit
+fields-few least size [] e h = omega arith
+fields-few least size (o ∷ os) e h =
+    let (low, rest) = both-true (leb least o) _ e in
+    let (in-text, others) = both-true (leb (o + 2) size) _ rest in
+    let a = leb-true least o low in
+    let b = leb-true (o + 2) size in-text in
+    let c = fields-few (o + 2) size os others b in
+    omega arith
 
 -- A RECORD
 

@@ -17,19 +17,7 @@ use Rattle.book.specs.declared.Entry.{Entry}
 use Rattle.book.specs.declared.Entry.the-variants.{Absent, At}
 use Rattle.book.specs.Book.{Record, Book, fieldsFit, fair, recordsFrom, onto, headerOk, entryAt, withEntry, bookOf, restAt, cardAt, addressAt, countAt, sizeAt, textAt, nextAt, recordAt, recordOk}
 use Rattle.book.specs.Writing.{restBytes, recordBytes, recordsBytes, entryBytes, entryFits, bookBytes, fairAll}
-use Rattle.book.proofs.Laws.{Fair, fair-is, is-whole}
-
--- offsets that fit are few
-fields-few : (least size : ℕ) (os : List ℕ) → fieldsFit least size os ≡ true → least ≤ size → least + 2 * length os ≤ size
-unfolding fieldsFit
-fields-few least size [] e h = omega arith
-fields-few least size (o ∷ os) e h =
-    let (low, rest) = both-true (leb least o) _ e in
-    let (in-text, others) = both-true (leb (o + 2) size) _ rest in
-    let a = leb-true least o low in
-    let b = leb-true (o + 2) size in-text in
-    let c = fields-few (o + 2) size os others b in
-    omega arith
+use Rattle.book.proofs.Laws.{Fair, fair-is, is-whole, fields-few}
 
 record-length : (r : Record) → length (recordBytes r) ≡ 7 + length (r .fields) + length (r .text)
 unfolding recordBytes restBytes

@@ -19,8 +19,8 @@ use Rattle.book.specs.declared.Layout.the-variants.{Whole}
 use Rattle.book.specs.Book.{Record, Book, recordsFrom, onto, headerOk, entryAt, withEntry, bookOf, fieldsFit, restAt, cardAt, countAt, sizeAt, nextAt, recordAt, recordOk}
 use Rattle.book.specs.Reading.{stepAt, placeAt, behind, recordOf, headerOf, layoutOf, layoutIn, recordsOr, recordsIn, Sound}
 use Rattle.book.proofs.Laws as laws
-use Rattle.values.proofs.Laws.{held}
-use Rattle.book.proofs.Laws.{text-length, whole-is}
+use Rattle.values.proofs.Laws.{held, part-length}
+use Rattle.book.proofs.Laws.{text-length, whole-is, fields-few}
 use Rattle.book.proofs.Header.{short-header}
 
 -- WHAT THE READER'S ANSWER SAYS
@@ -70,6 +70,8 @@ gave s at last p c e =
     let w = whole-is s at last ok in
     let f = w .is in
     let l = text-length s at last (w .rest) (w .count) in
+    let n = part-length s (at + 7) (countAt s at) (omega (arith, w .rest, w .count)) in
+    let few : countAt s at ≤ 128 = let q = fields-few 0 (length (recordAt s at .text)) (recordAt s at .fields) (f .inside) (omega arith) in omega (arith, q, f .short) in
     rw (is-p, is-c)
     (record {
       sound = record {
@@ -77,6 +79,7 @@ gave s at last p c e =
         text = omega (arith, w .rest, w .count);
         long = omega arith;
         short = omega arith;
+        few = few;
         card = (omega arith, omega arith);
         high = omega arith;
         inside = rw l at (f .inside);
@@ -185,6 +188,14 @@ module _ (s : List ℕ) (e : Entry) (q : Whole e ≡ layoutOf s) where
       go : (o : Option Book) → bookOf s ≡ o → Whole e ≡ layoutIn o → bookOf s ≡ some (record { entry = e; records = recordsOr (bookOf s) })
       go none h k = let z : _≡_ {A = ℕ} 0 1 = cc in absurd (omega arith)
       go (some b) h k = let x : e ≡ b .entry = cc in rw (h, x)
+
+  pub long-enough : 8 ≤ length s
+  unfolding bookOf
+  long-enough = go (headerOk s) refl book-is
+    where
+      go : (b : Bool) → headerOk s ≡ b → pick b (withEntry (entryAt s) (recordsFrom (length s) s 8 0)) none ≡ some (record { entry = e; records = recordsIn s }) → 8 ≤ length s
+      go true h k = held 8 (length s) (short-header s) h
+      go false h k = let z : _≡_ {A = ℕ} 0 1 = cc in absurd (omega arith)
 
   pub records-are : recordsFrom (length s) s 8 0 ≡ some (recordsIn s)
   unfolding bookOf

@@ -60,6 +60,10 @@ layoutIn (some b) = Whole (b .entry)
 unfoldable pub layoutOf : List ℕ → Layout
 layoutOf s = layoutIn (bookOf s)
 
+-- the book keeps its layout
+abbrev pub Kept : List ℕ → Type 0
+Kept s = (e : Entry) × (Whole e ≡ layoutOf s)
+
 abbrev pub recordsOr : Option Book → List B.Record
 recordsOr none = []
 recordsOr (some b) = b .records
@@ -74,6 +78,7 @@ pub record Sound (s : List ℕ) (p : Place) : Type 0 where
   pub text : p .text + p .size ≤ length s
   pub long : 1 ≤ p .size
   pub short : p .size ≤ 256
+  pub few : p .count ≤ 128
   pub card : (1 ≤ p .card) × (p .card ≤ 4000)
   pub high : p .address .0 + p .size ≤ 65536
   pub inside : fieldsFit 0 (p .size) (part s (p .fields) (p .count)) ≡ true

@@ -15,7 +15,8 @@ use Rattle.values.specs.declared.Displacement.{Displacement}
 use Rattle.values.specs.declared.Relocatable.{Relocatable}
 use Rattle.values.specs.declared.Moved.{Moved}
 use Rattle.values.specs.declared.Moved.the-variants.{To, Over}
-use Rattle.values.proofs.Laws.{both-true, part-length, sets-over, sets-sets}
+use Rattle.values.proofs.Laws.{both-true, sets-over, sets-sets}
+use Rattle.book.proofs.Places.{fields-length}
 use Rattle.book.specs.Book.{Record, fieldsFit}
 use Rattle.book.specs.declared.Place.{Place}
 use Rattle.book.specs.Reading.{recordOf, Sound}
@@ -35,14 +36,8 @@ fits-each least size (o ∷ os) e (suc k) h =
     fits-each (o + 2) size os others k (omega arith)
 
 module _ (s : List ℕ) (p : Place) (ok : Sound s p) where
-  pub fields-length : length (recordOf s p .fields) ≡ p .count
-  fields-length = part-length s (p .fields) (p .count) (ok .fields)
-
-  pub text-length : length (recordOf s p .text) ≡ p .size
-  text-length = part-length s (p .text) (p .size) (ok .text)
-
   pub offset-inside : (i : ℕ) → i < p .count → getD (recordOf s p .fields) i 0 + 2 ≤ p .size
-  offset-inside i h = let n = fields-length in fits-each 0 (p .size) (recordOf s p .fields) (ok .inside) i (omega arith)
+  offset-inside i h = let n = fields-length s p ok in fits-each 0 (p .size) (recordOf s p .fields) (ok .inside) i (omega arith)
 
 -- WHAT THE SUM OF A FIELD AND A DISPLACEMENT SAYS
 

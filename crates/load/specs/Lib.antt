@@ -1,2 +1,1 @@
 pub mod Load
-pub mod Calls

@@ -2,11 +2,10 @@
 ghost use mathlib.Core.Path.{_≡_};
 ghost use Prim.Native.Nat.{_+_, _≤_};
 ghost use lib.Dec.{ltb};
-ghost use Rattle.book.specs.Reading.{layoutOf, recordsIn};
+ghost use Rattle.book.specs.Reading.{layoutOf, recordsIn, Kept};
 ghost use Rattle.book.specs.declared.Layout.{Layout};
 ghost use Rattle.fields.specs.Fields.{overField};
 ghost use Rattle.load.specs.Load.{firstCard, outside, roomIn, storedAll, bytesStored, judged, loading};
-ghost use Rattle.load.specs.Calls.{Kept};
 use book::Cursor;
 use book::Entry;
 use book::Layout;

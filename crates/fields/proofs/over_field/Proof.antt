@@ -9,7 +9,8 @@ use Rattle.values.specs.Words.{word, twoBytes}
 use Rattle.values.proofs.Laws.{drop-turn, part-between, between-length, part-length}
 use Rattle.book.specs.Reading.{recordOf, Sound}
 use Rattle.fields.specs.Fields.{overIn, overField, movedIn, movedText}
-use Rattle.fields.proofs.Laws.{fields-length, moved-over, moved-to, over-here, over-later, over-none}
+use Rattle.book.proofs.Places.{fields-length}
+use Rattle.fields.proofs.Laws.{moved-over, moved-to, over-here, over-later, over-none}
 use Rattle.fields.proofs.over_field.Statement.{statement}
 use Rattle.fields.proofs.over_field.Tie as tie
 use Rattle.fields.proofs.over_field.Reads as reads

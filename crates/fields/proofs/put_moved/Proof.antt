@@ -10,7 +10,8 @@ use Rattle.values.proofs.Laws.{drop-turn, part-between, between-length, part-le
 use Rattle.book.specs.Reading.{recordOf, Sound}
 use Rattle.fields.specs.Fields.{overIn, overField, movedIn, movedText}
 use lib.Seq.{sets, length-sets}
-use Rattle.fields.proofs.Laws.{fields-length, text-length, moved-over, moved-to, over-here, over-later, Moving, moving-start, moving-turn, moving-end}
+use Rattle.book.proofs.Places.{fields-length, text-length}
+use Rattle.fields.proofs.Laws.{moved-over, moved-to, over-here, over-later, Moving, moving-start, moving-turn, moving-end}
 use Rattle.fields.proofs.put_moved.Statement.{statement}
 use Rattle.fields.proofs.put_moved.Tie as tie
 use Rattle.fields.proofs.put_moved.Reads as reads

@@ -9,7 +9,7 @@ use Rattle.book.specs.Reading.{stepAt, recordOf, recordsIn}
 use Rattle.book.specs.declared.Step.{Step}
 use Rattle.book.proofs.Turns.{Left, start, onward, ended, never, gave, first}
 use Rattle.fields.specs.Fields.{overField}
-use Rattle.fields.proofs.Laws.{text-length}
+use Rattle.book.proofs.Places.{text-length}
 use lib.Dec.{ltb}
 use Rattle.load.specs.Load.{firstCard, outside}
 use Rattle.load.proofs.Laws.{first-hit, first-miss, first-none}

@@ -12,7 +12,8 @@ use Rattle.fields.specs.Fields.{overField, movedText}
 use mathlib.Core.Bool.{false}
 use borrow.Author.Tests.{ltb-false}
 use lib.Seq.{sets}
-use Rattle.fields.proofs.Laws.{text-length, moved-over, moved-to}
+use Rattle.book.proofs.Places.{text-length}
+use Rattle.fields.proofs.Laws.{moved-over, moved-to}
 use Rattle.load.specs.Load.{firstCard, outside, roomIn, stored, storedAll, bytesStored}
 use Rattle.load.proofs.Laws.{none-fails, stored-is, stored-none, bytes-none, Still, still-first, stored-first, bytes-first}
 use Rattle.load.proofs.store_all.Statement.{statement}

@@ -1,0 +1,2 @@
+-- Laws on the printer's lines.
+pub mod Laws

@@ -1,0 +1,78 @@
+use borrow.Author.Needs.{needs}
+use native.Mathlib.Omega.{arith}
+use mathlib.Core.Path.{_≡_, refl, sym, ap, _∙_}
+use mathlib.Core.List.{_++_}
+use lib.ListN.{length, length-append}
+use lib.Seq.{sets}
+use Rattle.book.specs.Reading.{recordsIn}
+use Rattle.book.proofs.Turns.{long-enough}
+use Prim.Native.Nat.{_+_}
+use Rattle.print.specs.Print.{headerLine, recordLines, bookLines}
+use Rattle.print.proofs.Laws.{room, no-room, lines-are, header-length, then}
+use Rattle.print.proofs.print_lines.Statement.{statement}
+use Rattle.print.proofs.print_lines.Tie as tie
+use Rattle.print.proofs.print_lines.Reads as reads
+use Rattle.print.proofs.print_lines.Lts as lts
+use Rattle.print.proofs.lines_length.Reads as lines-length-reads
+use Rattle.print.proofs.put_header.Reads as put-header-reads
+use Rattle.print.proofs.put_records.Reads as put-records-reads
+
+-- src/lib.rt:179:20
+lines-length-requires : tie.Need-lines-length-requires
+lines-length-requires c κs = search needs
+
+-- src/lib.rt:179:15
+add-all : tie.Need-add-all
+add-all c = search needs
+
+-- src/lib.rt:181:13
+put-header-requires : tie.Need-put-header-requires
+put-header-requires c κs = let (e, q) = c .before .before .before .before .before .pre in let all = c .before .before .lines-length .ensures .0 in (omega arith, long-enough _ e q)
+
+-- src/lib.rt:182:9
+put-records-requires : tie.Need-put-records-requires
+put-records-requires c κs = search needs
+
+-- src/lib.rt:174:1
+same-length : tie.Need-same-length
+same-length c = search needs
+
+--<H
+whole : (c : tie.After-lines-length) → 20 + c .lines-length .result ≡ length (bookLines (c .before .before .before .args .book .now))
+whole c =
+    let s = c .before .before .before .args .book .now in
+    let (e, q) = c .before .before .before .pre in
+    let l = header-length s (long-enough s e q) in
+    let k = length-append (headerLine s) (recordLines (recordsIn s)) in
+    let f = ap length (lines-are s) in
+    let n = c .lines-length .ensures .0 in
+    omega arith
+
+--H>
+
+-- src/lib.rt:174:1
+returns : tie.Need-returns
+returns c =
+    let a = c .before .before .before .before .before .before .before .before .before .before .before .before .args in let s = a .book .now in
+    let n = whole (c .before .before .before .before .before .before .before .before .before) in let h = c .before .before .before .before .before .before .put-header in let fits = c .before .before .before .before .before .before .before .before .if1 .taken in
+    let (e, q) = c .before .before .before .before .before .before .before .before .before .before .before .before .pre in let l = header-length s (long-enough s e q) in let h0 = h .ensures .0 in (
+      n,
+      then (a .out .now) _ _ 0 (h .result) (headerLine s) (recordLines (recordsIn s)) (h .ensures .1) (omega arith) (c .before .before .put-records .ensures)
+          ∙ ap (λ vs. sets (a .out .now) 0 vs) (sym (lines-are s)) ∙ sym (room _ (a .out .now) (omega arith)),
+    )
+
+-- src/lib.rt:174:1
+returns-2 : tie.Need-returns-2
+returns-2 c = let n = whole (c .before) in (n, sym (no-room _ (c .before .before .before .before .args .out .now) (omega (arith, n))))
+
+pub print-lines-spec : {M : Type 1} → statement M
+print-lines-spec =
+    tie.close
+    (tie.spec
+    lines-length-requires
+    add-all
+    put-header-requires
+    put-records-requires
+    same-length
+    returns
+    returns-2)

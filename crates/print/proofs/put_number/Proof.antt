@@ -1,0 +1,50 @@
+use native.Mathlib.Omega.{arith}
+use mathlib.Core.Path.{_≡_, refl, sym, ap, _∙_}
+use Prim.Native.Nat.{_/_, _%_}
+use mathlib.Core.List.{[], _∷_}
+use lib.Seq.{sets}
+use Rattle.print.specs.Print.{column}
+use borrow.Author.Needs.{needs}
+use Rattle.print.proofs.put_number.Statement.{statement}
+use Rattle.print.proofs.put_number.Tie as tie
+use Rattle.print.proofs.put_number.Reads as reads
+use Rattle.print.proofs.put_number.Lts as lts
+use Rattle.print.proofs.put_column.Reads as put-column-reads
+
+-- src/lib.rt:52:16
+cast-high : tie.Need-cast-high
+cast-high c = search needs
+
+-- src/lib.rt:53:15
+cast-low : tie.Need-cast-low
+cast-low c = search needs
+
+-- src/lib.rt:55:23
+slice-aggregate-put-column : tie.Need-slice-aggregate-put-column
+slice-aggregate-put-column c = search needs
+
+-- src/lib.rt:55:5
+put-column-requires : tie.Need-put-column-requires
+put-column-requires c κs = search needs
+
+-- src/lib.rt:47:1
+same-length : tie.Need-same-length
+same-length c = search needs
+
+-- src/lib.rt:47:1
+returns : tie.Need-returns
+returns c =
+    let a = c .before .before .before .before .before .before .args in
+    let high : a .n / 256 ≡ a .n / 256 % 256 = omega arith in
+    (c .before .before .put-column .ensures .0, c .before .before .put-column .ensures .1 ∙ ap (λ h. sets (a .m .now) (a .to) (column (h ∷ a .n % 256 ∷ []) 32)) high)
+
+pub put-number-spec : {M : Type 1} → statement M
+put-number-spec =
+    tie.close
+    (tie.spec
+    cast-high
+    cast-low
+    slice-aggregate-put-column
+    put-column-requires
+    same-length
+    returns)

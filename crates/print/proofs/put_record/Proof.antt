@@ -1,0 +1,52 @@
+use borrow.Author.Needs.{needs}
+use native.Mathlib.Omega.{arith}
+use mathlib.Core.Path.{_≡_, refl, sym, ap, _∙_}
+use Prim.Native.Nat.{_+_}
+use lib.Seq.{sets}
+use Rattle.book.specs.Reading.{recordOf}
+use Rattle.book.proofs.Places.{fields-length, text-length}
+use mathlib.Core.List.{_++_}
+use Rattle.print.specs.Print.{offsetsLength, headColumns, offsets, column}
+use Rattle.print.proofs.Laws.{head-length, offsets-length, line-is, then}
+use Rattle.print.proofs.put_record.Statement.{statement}
+use Rattle.print.proofs.put_record.Tie as tie
+use Rattle.print.proofs.put_record.Reads as reads
+use Rattle.print.proofs.put_record.Lts as lts
+use Rattle.print.proofs.put_head.Reads as put-head-reads
+use Rattle.print.proofs.put_offsets.Reads as put-offsets-reads
+use Rattle.print.proofs.put_text.Reads as put-text-reads
+
+-- src/lib.rt:126:9
+put-head-requires : tie.Need-put-head-requires
+put-head-requires c κs = search needs
+
+-- src/lib.rt:127:9
+put-offsets-requires : tie.Need-put-offsets-requires
+put-offsets-requires c κs = search needs
+
+-- src/lib.rt:128:5
+put-text-requires : tie.Need-put-text-requires
+put-text-requires c κs = search needs
+
+-- src/lib.rt:121:1
+same-length : tie.Need-same-length
+same-length c = search needs
+
+-- src/lib.rt:121:1
+returns : tie.Need-returns
+returns c =
+    let a = c .before .before .before .before .before .before .before .before .before .before .before .before .before .before .args in let s = a .book .now in let ok = c .before .before .before .before .before .before .before .before .before .before .before .before .before .before .pre .0 in
+    let h = c .before .before .before .before .before .before .before .before .before .before .put-head in let o = c .before .before .before .before .before .before .put-offsets in let t = c .before .before .put-text in
+    let h0 = h .ensures .0 in let o0 = o .ensures .0 in let t0 = t .ensures .0 in
+    let l = head-length (a .p .count) (a .p .size) (a .p .card) (a .p .address .0) in
+    let n = offsets-length (recordOf s (a .p) .fields) ∙ ap offsetsLength (fields-length s (a .p) ok) in (
+      omega arith,
+      then _ _ _ _ _ (headColumns (a .p .count) (a .p .size) (a .p .card) (a .p .address .0)) (offsets (recordOf s (a .p) .fields) ++ column (recordOf s (a .p) .text) 10) (h .ensures .1) (h0 ∙ ap (λ k. a .to + k) (sym l))
+          (then _ _ _ _ _ (offsets (recordOf s (a .p) .fields)) (column (recordOf s (a .p) .text) 10) (o .ensures .1) (o0 ∙ ap (λ k. h .result + k) (sym n)) (t .ensures .1))
+          ∙ ap (λ l. sets (a .m .now) (a .to) l) (sym (line-is (recordOf s (a .p)) (a .p .count) (a .p .size) (fields-length s (a .p) ok) (text-length s (a .p) ok))),
+    )
+
+pub put-record-spec : {M : Type 1} → statement M
+put-record-spec =
+    tie.close
+    (tie.spec put-head-requires put-offsets-requires put-text-requires same-length returns)

@@ -1,0 +1,139 @@
+use borrow.Author.Needs.{needs}
+use native.Mathlib.Omega.{arith}
+use mathlib.Core.Path.{_≡_, refl, sym, ap, _∙_}
+use Rattle.book.specs.Book.{Record}
+use Rattle.book.specs.Reading.{stepAt, recordOf, recordsIn}
+use Rattle.book.specs.declared.Step.{Step}
+use Rattle.book.proofs.Turns.{Left, start, onward, first, ended, never, gave}
+use Rattle.print.specs.Print.{recordLine, recordLines, lineLength}
+use lib.ListN.{length, length-append}
+use Prim.Native.Nat.{_+_, _-_, _*_, _≤_}
+use lib.Seq.{sets}
+use Rattle.values.proofs.Laws.{sets-append}
+use Rattle.book.proofs.Places.{fields-length, text-length}
+use Rattle.print.proofs.Laws.{lines-first, lines-none, line-length}
+use Rattle.print.proofs.put_records.Statement.{statement}
+use Rattle.print.proofs.put_records.Tie as tie
+use Rattle.print.proofs.put_records.Reads as reads
+use Rattle.print.proofs.put_records.Lts as lts
+use Rattle.book.proofs.Cursor.first.Reads as first-reads
+use Rattle.book.proofs.Cursor.next.Reads as next-reads
+use Rattle.print.proofs.put_record.Reads as put-record-reads
+
+abbrev Inv-loop : tie.InvT-loop
+Inv-loop m₀ to book at₀ cursor₀ m at cursor =
+    (length m ≡ length m₀)
+    × Left book (cursor .at) (cursor .card) (λ rs. (sets m₀ to (recordLines (recordsIn book)) ≡ sets m at (recordLines rs)) × (at + length (recordLines rs) ≤ length m₀))
+
+abbrev μ-loop : tie.MeasureT-loop
+μ-loop m₀ to book at₀ cursor₀ m at cursor = length book - cursor .at
+
+-- src/lib.rt:156:9
+first-requires : tie.Need-first-requires Inv-loop μ-loop
+first-requires c κs = search needs
+
+-- src/lib.rt:157:5
+loop-holds : tie.Need-loop-holds Inv-loop μ-loop
+loop-holds c = let (e, q) = c .before .before .before .pre .0 in rw (c .first .ensures .0, c .first .ensures .1) (refl, start _ e q _ (refl, c .before .before .before .pre .1))
+
+-- src/lib.rt:158:15
+next-requires : tie.Need-next-requires Inv-loop μ-loop
+next-requires c κs = search needs
+
+-- src/lib.rt:160:17
+enum-told : tie.Need-enum-told Inv-loop μ-loop
+enum-told c = search needs
+
+-- src/lib.rt:160:17
+same-length : tie.Need-same-length Inv-loop μ-loop
+same-length c = c .before .before .before .loop .inv .0
+
+-- src/lib.rt:160:17
+returns : tie.Need-returns Inv-loop μ-loop
+returns c = absurd (never _ _ _ _ (c .before .before .before .loop .inv .1) (sym (c .enum-told .given .1) ∙ c .before .before .next .ensures))
+
+-- src/lib.rt:163:17
+enum-told-2 : tie.Need-enum-told-2 Inv-loop μ-loop
+enum-told-2 c = search needs
+
+-- src/lib.rt:163:17
+same-length-2 : tie.Need-same-length-2 Inv-loop μ-loop
+same-length-2 c = c .before .before .before .loop .inv .0
+
+-- src/lib.rt:163:17
+returns-2 : tie.Need-returns-2 Inv-loop μ-loop
+returns-2 c = let l = c .before .before .before .loop in let (e, fits) = ended _ _ _ _ (l .inv .1) (sym (c .enum-told2 .given .1) ∙ c .before .before .next .ensures) in sym (e ∙ ap (λ vs. sets (l .m) (l .at) vs) lines-none)
+
+-- src/lib.rt:165:26
+enum-known-p : tie.Need-enum-known-p Inv-loop μ-loop
+enum-known-p c = search needs
+
+--<H
+-- the record that the reader gave
+read : (c : tie.After-p Inv-loop μ-loop) → Step.Record (c .p .given .0 .0) (c .p .given .0 .1 .0) ≡ stepAt (c .before .before .before .before .before .before .before .args .book .now) (c .before .before .before .loop .cursor .at) (c .before .before .before .loop .cursor .card)
+read c = sym (c .p .given .1) ∙ c .before .before .next .ensures
+
+line : (c : tie.After-p Inv-loop μ-loop) → length (recordLine (recordOf (c .before .before .before .before .before .before .before .args .book .now) (c .p .given .0 .0))) ≡ lineLength (c .p .given .0 .0 .count) (c .p .given .0 .0 .size)
+line c =
+    let s = c .before .before .before .before .before .before .before .args .book .now in let p = c .p .given .0 .0 in let ok = gave _ _ _ _ _ (read c) .sound in
+    line-length (recordOf s p) (p .count) (p .size) (fields-length s p ok) (text-length s p ok)
+
+-- its line lies inside m
+fits : (c : tie.After-p Inv-loop μ-loop) → c .before .before .before .loop .at + lineLength (c .p .given .0 .0 .count) (c .p .given .0 .0 .size) ≤ length (c .before .before .before .loop .m)
+fits c =
+    let l = c .before .before .before .loop in let r = recordOf (c .before .before .before .before .before .before .before .args .book .now) (c .p .given .0 .0) in
+    let (rest, h) = first _ _ _ _ (l .inv .1) _ _ (read c) in
+    let room = h .1 in
+    let n = line c in
+    let k = length-append (recordLine r) (recordLines rest) in
+    let f = ap length (lines-first r rest) in
+    let same = l .inv .0 in
+    omega arith
+
+--H>
+
+-- src/lib.rt:166:17
+put-record-requires : tie.Need-put-record-requires Inv-loop μ-loop
+put-record-requires c κs = (gave _ _ _ _ _ (read (c .before .before)) .sound, fits (c .before .before))
+
+-- src/lib.rt:157:5
+loop-less : tie.Need-loop-less Inv-loop μ-loop
+loop-less c = let g = gave _ _ _ _ _ (read (c .before .before .before .before .before)) in omega (arith, g .on, g .within)
+
+-- src/lib.rt:157:5
+loop-again : tie.Need-loop-again Inv-loop μ-loop
+loop-again c =
+    let a = c .before .before .before .before .before .before .before .before .before .before .before .before .args in let l = c .before .before .before .before .before .before .before .before .loop in let w = c .before .before .put-record in let p = c .before .before .before .before .before .p .given .0 .0 in let r = recordOf (a .book .now) p in
+    let n = line (c .before .before .before .before .before) in
+    let (to, is) = w .ensures in
+    let there : w .result ≡ l .at + length (recordLine r) = omega arith in (
+      w .kept .0 ∙ l .inv .0,
+      onward _ _ _ _ (l .inv .1) _ _ _ (read (c .before .before .before .before .before)) (λ rest h.
+          let k = length-append (recordLine r) (recordLines rest) in
+          let f = ap length (lines-first r rest) in
+          let room = h .1 in (
+            h .0 ∙ ap (λ vs. sets (l .m) (l .at) vs) (lines-first r rest) ∙ sets-append (l .m) (l .at) (recordLine r) (recordLines rest)
+                ∙ ap (λ n. sets (sets (l .m) (l .at) (recordLine r)) n (recordLines rest)) (sym there) ∙ ap (λ x. sets x (w .result) (recordLines rest)) (sym is),
+            omega arith,
+          )),
+    )
+
+pub put-records-spec : {M : Type 1} → statement M
+put-records-spec =
+    tie.close
+    (tie.spec
+    Inv-loop
+    μ-loop
+    first-requires
+    loop-holds
+    next-requires
+    enum-told
+    same-length
+    returns
+    enum-told-2
+    same-length-2
+    returns-2
+    enum-known-p
+    put-record-requires
+    loop-less
+    loop-again)

@@ -1,0 +1,24 @@
+//! The rules, written plainly and apart from the proved library, so that the two can be
+//! held against each other: what a book is, what loading does, what the printer prints.
+
+pub mod book;
+pub mod load;
+pub mod print;
+
+/// A refusal: its number, and the card it gives, 0 where it gives none.
+#[derive(Debug, Clone, Copy, PartialEq, Eq)]
+pub struct Refusal {
+    pub number: u8,
+    pub card: u16,
+}
+
+/// The bytes that hex digits stand for; blanks are skipped.
+#[cfg(test)]
+fn hex(digits: &str) -> Vec<u8> {
+    let digits: Vec<u8> = digits
+        .chars()
+        .filter(|c| !c.is_whitespace())
+        .map(|c| c.to_digit(16).expect("a hex digit") as u8)
+        .collect();
+    digits.chunks(2).map(|pair| pair[0] << 4 | pair[1]).collect()
+}
