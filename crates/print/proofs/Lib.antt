@@ -1,2 +1,3 @@
 -- Laws on the printer's lines.
 pub mod Laws
+pub mod Short

@@ -1,47 +1,71 @@
 // Prints the book on standard input: its lines, or REFUSED 50, or REFUSED 57 for an input over 65,536 bytes.
+ghost use Prim.Native.Nat.{_≤_};
+ghost use lib.ListN.{length};
+ghost use Rattle.printer.specs.Input.{readOf};
 use libc::STDERR_FILENO;
 use libc::STDIN_FILENO;
 use libc::STDOUT_FILENO;
 
+// How many bytes were read, 0 at the end of the input, or that it can't be read.
 enum Input {
-    Whole(usize),
+    Read(usize),
     Failed,
 }
 
-// Reads until the input ends or the buffer is full, whatever the sizes of the pieces that it comes in.
-fn read_input(buffer: &mut [u8]) -> Input {
+fn read_piece(room: &mut [u8]) -> Input
+    ensures { λ r. ⌜ readOf r ≤ length (now (room .entry)) ⌝ }
+{
+    let got = libc::read(STDIN_FILENO, room);
+    if got < 0 {
+        return Input::Failed;
+    }
+    Input::Read(io::count(got, room))
+}
+
+// Reads until the input ends or the buffer is full, in whatever pieces it comes.
+fn read_input(buffer: &mut [u8]) -> Input
+    ensures { λ r. ⌜ readOf r ≤ length (now (buffer .exit)) ⌝ }
+{
     let mut have = 0;
     while have < buffer.len() {
-        let room = &mut buffer[have..];
-        let got = libc::read(STDIN_FILENO, room);
-        if got < 0 {
-            return Input::Failed;
+        match read_piece(&mut buffer[have..]) {
+            Input::Failed => {
+                return Input::Failed;
+            }
+            Input::Read(more) => {
+                if more == 0 {
+                    return Input::Read(have);
+                }
+                have += more;
+            }
         }
-        let more = io::count(got, &buffer[have..]);
-        if more == 0 {
-            return Input::Whole(have);
-        }
-        have += more;
     }
-    Input::Whole(have)
+    Input::Read(have)
+}
+
+// What the printer writes for the first bytes of a buffer.
+fn print_input(input: &[u8], have: usize)
+    requires { ⌜ have ≤ length (now input) ⌝ }
+{
+    let mut out = [0u8; 196608];
+    let length = print::print_book(&input[..have], &mut out);
+    if !io::write_all(STDOUT_FILENO, &out[..length]) {
+        io::write_all(
+            STDERR_FILENO,
+            b"printer: standard output can't be written\n",
+        );
+    }
 }
 
 fn main() {
     // One byte more than a book to print may have, so that a longer input shows.
-    let mut input = [0u8; 65537];
-    let mut out = [0u8; 196608];
-    match read_input(&mut input) {
+    let mut buffer = [0u8; 65537];
+    match read_input(&mut buffer) {
         Input::Failed => {
             io::write_all(STDERR_FILENO, b"printer: standard input can't be read\n");
         }
-        Input::Whole(have) => {
-            let length = print::print_book(&input[..have], &mut out);
-            if !io::write_all(STDOUT_FILENO, &out[..length]) {
-                io::write_all(
-                    STDERR_FILENO,
-                    b"printer: standard output can't be written\n",
-                );
-            }
+        Input::Read(have) => {
+            print_input(&buffer, have);
         }
     }
 }

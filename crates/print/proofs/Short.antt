@@ -1,0 +1,74 @@
+-- What the printer writes is never longer than 196,608 bytes: three for each byte of an input that it takes.
+use Prim.Native.Nat.{ℕ, zero, suc, _+_, _*_, _≤_, _<_}
+use mathlib.Core.List.{List, [], _∷_}
+use mathlib.Core.Path.{_≡_, refl, sym, ap, _∙_}
+use mathlib.Core.Bool.{Bool, true, false}
+use mathlib.Core.Option.{Option, none, some}
+use native.Mathlib.Omega.{arith}
+use lib.ListN.{length, length-append}
+use lib.Dec.{ltb, eqb}
+use borrow.Author.Tests.{eqb-true, ltb-false, eqb-false, eq-eqb, ne-eqb}
+use Rattle.values.specs.Tests.{pick}
+use Rattle.values.proofs.Laws.{part-length}
+use Rattle.book.specs.Book.{Record, recordsFrom, onto, recordOk, restAt, countAt, sizeAt, cardAt, nextAt, recordAt}
+use Rattle.book.specs.Reading.{layoutOf, recordsIn}
+use Rattle.book.specs.declared.Entry.{Entry}
+use Rattle.book.specs.declared.Layout.{Layout}
+use Rattle.book.specs.declared.Layout.the-variants.{Whole, Broken}
+use Rattle.book.proofs.Laws.{text-length, whole-is}
+use Rattle.book.proofs.Turns.{records-are, long-enough}
+use Rattle.print.specs.Print.{headerLine, recordLine, recordLines, bookLines, linesOf, printed, refused50, refused57, offsetsLength}
+use Rattle.print.proofs.Laws.{line-length, lines-first, lines-none, lines-are, header-length, length-none, length-some}
+
+offsets-short : (count : ℕ) → offsetsLength count ≤ 2 * count + 2
+offsets-short count = go (eqb count 0) refl
+  where
+    go : (b : Bool) → eqb count 0 ≡ b → offsetsLength count ≤ 2 * count + 2
+    go true h = let n = length-none count (eqb-true count 0 h) in omega arith
+    go false h = let n = length-some count (eqb-false count 0 h) in omega arith
+
+-- the lines of the records from a place on take at most three bytes for each byte from there on
+lines-short : (n : ℕ) (s : List ℕ) (at last : ℕ) (rs : List Record) → recordsFrom n s at last ≡ some rs → length (recordLines rs) + 3 * at ≤ 3 * length s
+unfolding recordsFrom
+lines-short zero s at last rs q = let z : _≡_ {A = ℕ} 0 1 = cc in absurd (omega arith)
+lines-short (suc n) s at last rs q =
+    go (lines-short n s (nextAt s at) (cardAt s at)) (eqb at (length s)) (recordOk s at last) (recordsFrom n s (nextAt s at) (cardAt s at)) refl refl refl q
+  where
+    go : ((rest : List Record) → recordsFrom n s (nextAt s at) (cardAt s at) ≡ some rest → length (recordLines rest) + 3 * nextAt s at ≤ 3 * length s)
+        → (a b : Bool) (o : Option (List Record)) → eqb at (length s) ≡ a → recordOk s at last ≡ b → recordsFrom n s (nextAt s at) (cardAt s at) ≡ o
+        → pick a (some []) (pick b (onto (recordAt s at) o) none) ≡ some rs → length (recordLines rs) + 3 * at ≤ 3 * length s
+    go others true b o h k r e =
+        let there = eqb-true at (length s) h in
+        let is : [] ≡ rs = cc in
+        let l = ap (λ x. length (recordLines x)) (sym is) ∙ ap length lines-none in
+        omega arith
+    go others false false o h k r e = let z : _≡_ {A = ℕ} 0 1 = cc in absurd (omega arith)
+    go others false true none h k r e = let z : _≡_ {A = ℕ} 0 1 = cc in absurd (omega arith)
+    go others false true (some rest) h k r e =
+        let is : recordAt s at ∷ rest ≡ rs = cc in
+        let w = whole-is s at last k in
+        let inside = w .rest in
+        let counted = w .count in
+        let t = text-length s at last inside counted in
+        let c = part-length s (at + 7) (countAt s at) (omega arith) in
+        let some = w .is .some in
+        let line = line-length (recordAt s at) (countAt s at) (sizeAt s at) c t in
+        let few = offsets-short (countAt s at) in
+        let more = others rest r in
+        let l = ap (λ x. length (recordLines x)) (sym is) ∙ ap length (lines-first (recordAt s at) rest) ∙ length-append (recordLine (recordAt s at)) (recordLines rest) in
+        omega arith
+
+pub printed-short : (s : List ℕ) → length (printed s) ≤ 196608
+unfolding printed
+printed-short s = go (ltb 65536 (length s)) (layoutOf s) refl refl
+  where
+    go : (b : Bool) (l : Layout) → ltb 65536 (length s) ≡ b → l ≡ layoutOf s → length (pick b refused57 (linesOf s l)) ≤ 196608
+    go true l h q = omega arith
+    go false Broken h q = omega arith
+    go false (Whole e) h q =
+        let small = ltb-false 65536 (length s) h in
+        let n = lines-short (length s) s 8 0 (recordsIn s) (records-are s e q) in
+        let long = header-length s (long-enough s e q) in
+        let k = length-append (headerLine s) (recordLines (recordsIn s)) in
+        let f = ap length (lines-are s) in
+        omega arith
