@@ -1,3 +1,4 @@
+-- `fields_fit` meets its contract. The invariant: the whole list fits if what is left of it does, from the least offset now.
 use native.Mathlib.Omega.{arith}
 use Prim.Native.Nat.{_+_, _-_, _≤_}
 use mathlib.Core.Path.{_≡_, refl, sym, ap, _∙_}
@@ -8,9 +9,6 @@ use Rattle.book.specs.Book.{fieldsFit}
 use Rattle.book.proofs.Laws.{fields-low, fields-out, fields-more, fields-none}
 use Rattle.book.proofs.fields_fit.Statement.{statement}
 use Rattle.book.proofs.fields_fit.Tie as tie
-use Rattle.book.proofs.fields_fit.Reads as reads
-use Rattle.book.proofs.fields_fit.Lts as lts
-use Rattle.values.proofs.words.wide.Reads as wide-reads
 
 abbrev Inv-loop : tie.InvT-loop
 Inv-loop offsets size least₀ i₀ least i = (i ≤ length offsets) × (fieldsFit 0 size offsets ≡ fieldsFit least size (drop i offsets))
@@ -18,19 +16,15 @@ Inv-loop offsets size least₀ i₀ least i = (i ≤ length offsets) × (fieldsF
 abbrev μ-loop : tie.MeasureT-loop
 μ-loop offsets size least₀ i₀ least i = length offsets - i
 
--- src/lib.rt:54:5
 loop-holds : tie.Need-loop-holds Inv-loop μ-loop
 loop-holds c = (omega arith, refl)
 
--- src/lib.rt:55:27
 shared-slice-read-wide : tie.Need-shared-slice-read-wide Inv-loop μ-loop
 shared-slice-read-wide c = omega arith
 
--- src/lib.rt:55:13
 wide-requires : tie.Need-wide-requires Inv-loop μ-loop
 wide-requires c κs = tt
 
---<H
 -- the offsets left, the one at hand first
 left : (c : tie.After-wide Inv-loop μ-loop)
     → fieldsFit 0 (c .before .before .before .before .before .args .size) (c .before .before .before .before .before .args .offsets .now) ≡ fieldsFit (c .before .before .before .loop .least) (c .before .before .before .before .before .args .size) (c .wide .result ∷ drop (c .before .before .before .loop .i + 1) (c .before .before .before .before .before .args .offsets .now))
@@ -38,38 +32,28 @@ left c =
     let a = c .before .before .before .before .before .args in let l = c .before .before .before .loop in
     l .inv .1 ∙ ap (λ os. fieldsFit (l .least) (a .size) os) (drop-turn (a .offsets .now) (l .i) (omega arith) ∙ ap (λ o. o ∷ drop (l .i + 1) (a .offsets .now)) (sym (c .wide .ensures .0)))
 
---H>
-
--- src/lib.rt:57:13
 returns : tie.Need-returns Inv-loop μ-loop
 returns c = let a = c .before .before .before .before .before .before .args in let l = c .before .before .before .before .loop in sym (left (c .before) ∙ fields-low (l .least) (a .size) (c .before .wide .result) _ (omega arith))
 
--- src/lib.rt:59:19
 add-if2 : tie.Need-add-if2 Inv-loop μ-loop
 add-if2 c = omega arith
 
--- src/lib.rt:60:13
 returns-2 : tie.Need-returns-2 Inv-loop μ-loop
 returns-2 c = let a = c .before .before .before .before .before .before .before .args in let l = c .before .before .before .before .before .loop in sym (left (c .before .before) ∙ fields-out (l .least) (a .size) (c .before .before .wide .result) _ (omega arith))
 
--- src/lib.rt:62:17
 add-least : tie.Need-add-least Inv-loop μ-loop
 add-least c = omega arith
 
--- src/lib.rt:63:9
 add-i : tie.Need-add-i Inv-loop μ-loop
 add-i c = omega arith
 
--- src/lib.rt:54:5
 loop-less : tie.Need-loop-less Inv-loop μ-loop
 loop-less c = omega arith
 
--- src/lib.rt:54:5
 loop-again : tie.Need-loop-again Inv-loop μ-loop
 loop-again c = let a = c .before .before .before .before .before .before .before .args in let l = c .before .before .before .before .before .loop in
     (omega arith, left (c .before .before) ∙ fields-more (l .least) (a .size) (c .before .before .wide .result) _ (omega arith) (omega arith))
 
--- src/lib.rt:48:1
 returns-3 : tie.Need-returns-3 Inv-loop μ-loop
 returns-3 c = let a = c .before .before .before .args in let l = c .before .loop in
     sym (l .inv .1 ∙ rw (drop-of-length-le (a .offsets .now) {i = l .i} (omega arith)) (fields-none (l .least) (a .size)))

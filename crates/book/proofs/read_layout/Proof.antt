@@ -1,3 +1,4 @@
+-- `read_layout` meets its contract. The invariant: the layout of the whole is that of the records left.
 use borrow.Author.Needs.{needs}
 use native.Mathlib.Omega.{arith}
 use Prim.Native.Nat.{_-_}
@@ -8,11 +9,6 @@ use Rattle.book.specs.declared.Step.{Step}
 use Rattle.book.proofs.Turns.{LayoutLeft, layout-start, layout-no-header, layout-more, layout-end, layout-broken, gave}
 use Rattle.book.proofs.read_layout.Statement.{statement}
 use Rattle.book.proofs.read_layout.Tie as tie
-use Rattle.book.proofs.read_layout.Reads as reads
-use Rattle.book.proofs.read_layout.Lts as lts
-use Rattle.book.proofs.Cursor.first.Reads as first-reads
-use Rattle.book.proofs.Cursor.next.Reads as next-reads
-use Rattle.book.proofs.read_header.Reads as read-header-reads
 
 abbrev Inv-loop : tie.InvT-loop
 Inv-loop book entry cursor₀ cursor = LayoutLeft book entry (cursor .at) (cursor .card)
@@ -20,66 +16,49 @@ Inv-loop book entry cursor₀ cursor = LayoutLeft book entry (cursor .at) (curso
 abbrev μ-loop : tie.MeasureT-loop
 μ-loop book entry cursor₀ cursor = length book - cursor .at
 
--- src/lib.rt:169:11
 read-header-requires : tie.Need-read-header-requires Inv-loop μ-loop
 read-header-requires c κs = search needs
 
--- src/lib.rt:170:27
 enum-told : tie.Need-enum-told Inv-loop μ-loop
 enum-told c = search needs
 
--- src/lib.rt:171:23
 enum-known-entry : tie.Need-enum-known-entry Inv-loop μ-loop
 enum-known-entry c = search needs
 
--- src/lib.rt:172:17
 first-requires : tie.Need-first-requires Inv-loop μ-loop
 first-requires c κs = search needs
 
--- src/lib.rt:173:13
 loop-holds : tie.Need-loop-holds Inv-loop μ-loop
 loop-holds c = rw (c .first .ensures .0, c .first .ensures .1) (layout-start _ _ (sym (c .before .before .entry .given .1) ∙ c .before .before .before .before .read-header .ensures))
 
--- src/lib.rt:174:23
 next-requires : tie.Need-next-requires Inv-loop μ-loop
 next-requires c κs = search needs
 
--- src/lib.rt:176:25
 enum-told-2 : tie.Need-enum-told-2 Inv-loop μ-loop
 enum-told-2 c = search needs
 
--- src/lib.rt:176:25
 returns : tie.Need-returns Inv-loop μ-loop
 returns c = layout-broken _ _ _ _ (c .before .before .before .loop .inv) (sym (c .enum-told2 .given .1) ∙ c .before .before .next .ensures)
 
--- src/lib.rt:179:25
 enum-told-3 : tie.Need-enum-told-3 Inv-loop μ-loop
 enum-told-3 c = search needs
 
--- src/lib.rt:179:25
 returns-2 : tie.Need-returns-2 Inv-loop μ-loop
 returns-2 c = layout-end _ _ _ _ (c .before .before .before .loop .inv) (sym (c .enum-told3 .given .1) ∙ c .before .before .next .ensures)
 
--- src/lib.rt:181:37
 enum-known-behind : tie.Need-enum-known-behind Inv-loop μ-loop
 enum-known-behind c = search needs
 
---<H
 -- the record that the reader gave
 read : (c : tie.After-behind Inv-loop μ-loop) → Step.Record (c .behind .given .0 .0) (c .behind .given .0 .1 .0) ≡ stepAt (c .before .before .before .before .before .before .before .before .before .before .args .book .now) (c .before .before .before .loop .cursor .at) (c .before .before .before .loop .cursor .card)
 read c = sym (c .behind .given .1) ∙ c .before .before .next .ensures
 
---H>
-
--- src/lib.rt:173:13
 loop-less : tie.Need-loop-less Inv-loop μ-loop
 loop-less c = let g = gave _ _ _ _ _ (read (c .before)) in omega (arith, g .on, g .within)
 
--- src/lib.rt:173:13
 loop-again : tie.Need-loop-again Inv-loop μ-loop
 loop-again c = layout-more _ _ _ _ (c .before .before .before .before .loop .inv) _ _ (read (c .before))
 
--- src/lib.rt:166:1
 returns-3 : tie.Need-returns-3 Inv-loop μ-loop
 returns-3 c = layout-no-header _ (sym (c .enum-told .given .1) ∙ c .before .before .read-header .ensures)
 

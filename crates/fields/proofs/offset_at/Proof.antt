@@ -1,3 +1,4 @@
+-- `offset_at` meets its contract. The offset is an element of the record's list, and fits the text.
 use native.Mathlib.Omega.{arith}
 use mathlib.Core.Path.{_≡_, sym, _∙_}
 use Rattle.values.proofs.Laws.{getD-part}
@@ -7,23 +8,16 @@ use Rattle.fields.proofs.Laws.{offset-inside}
 use borrow.Author.Needs.{needs}
 use Rattle.fields.proofs.offset_at.Statement.{statement}
 use Rattle.fields.proofs.offset_at.Tie as tie
-use Rattle.fields.proofs.offset_at.Reads as reads
-use Rattle.fields.proofs.offset_at.Lts as lts
-use Rattle.values.proofs.words.wide.Reads as wide-reads
 
--- src/lib.rt:25:14
 add-at : tie.Need-add-at
 add-at c = search needs
 
--- src/lib.rt:26:10
 shared-slice-read-wide : tie.Need-shared-slice-read-wide
 shared-slice-read-wide c = search needs
 
--- src/lib.rt:26:5
 wide-requires : tie.Need-wide-requires
 wide-requires c κs = search needs
 
--- src/lib.rt:21:1
 returns : tie.Need-returns
 returns c =
     let a = c .before .before .before .before .args in

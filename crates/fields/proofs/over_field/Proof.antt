@@ -1,22 +1,17 @@
+-- `over_field` meets its contract. The invariant: whether a field is over is whether one of those left is.
 use borrow.Author.Needs.{needs}
 use native.Mathlib.Omega.{arith}
-use Prim.Native.Nat.{ℕ, _+_, _-_, _≤_}
-use mathlib.Core.Path.{_≡_, refl, sym, ap, subst, _∙_}
-use mathlib.Core.List.{List, _∷_}
-use mathlib.Core.Bool.{true, false}
-use lib.ListN.{length, drop, drop-of-length-le}
-use Rattle.values.specs.Words.{word, twoBytes}
-use Rattle.values.proofs.Laws.{drop-turn, part-between, between-length, part-length}
-use Rattle.book.specs.Reading.{recordOf, Sound}
-use Rattle.fields.specs.Fields.{overIn, overField, movedIn, movedText}
+use Prim.Native.Nat.{_+_, _-_, _≤_}
+use mathlib.Core.Path.{_≡_, refl, sym, ap, _∙_}
+use mathlib.Core.List.{_∷_}
+use lib.ListN.{drop, drop-of-length-le}
+use Rattle.values.proofs.Laws.{drop-turn}
+use Rattle.book.specs.Reading.{recordOf}
+use Rattle.fields.specs.Fields.{overIn, overField}
 use Rattle.book.proofs.Places.{fields-length}
 use Rattle.fields.proofs.Laws.{moved-over, moved-to, over-here, over-later, over-none}
 use Rattle.fields.proofs.over_field.Statement.{statement}
 use Rattle.fields.proofs.over_field.Tie as tie
-use Rattle.fields.proofs.over_field.Reads as reads
-use Rattle.fields.proofs.over_field.Lts as lts
-use Rattle.fields.proofs.moved_field.Reads as moved-field-reads
-use Rattle.fields.proofs.offset_at.Reads as offset-at-reads
 
 abbrev Inv-loop : tie.InvT-loop
 Inv-loop book p d count i₀ i = (i ≤ count) × (overField (d .0) (recordOf book p) ≡ overIn (d .0) (recordOf book p .text) (drop i (recordOf book p .fields)))
@@ -24,19 +19,15 @@ Inv-loop book p d count i₀ i = (i ≤ count) × (overField (d .0) (recordOf bo
 abbrev μ-loop : tie.MeasureT-loop
 μ-loop book p d count i₀ i = count - i
 
--- src/lib.rt:44:5
 loop-holds : tie.Need-loop-holds Inv-loop μ-loop
 loop-holds c = (omega arith, refl)
 
--- src/lib.rt:45:13
 offset-at-requires : tie.Need-offset-at-requires Inv-loop μ-loop
 offset-at-requires c κs = (c .before .before .before .pre, omega arith)
 
--- src/lib.rt:46:15
 moved-field-requires : tie.Need-moved-field-requires Inv-loop μ-loop
 moved-field-requires c κs = (c .before .before .before .before .pre, c .offset-at .ensures .1)
 
---<H
 -- the offsets left, the one at hand first
 left : (c : tie.After-offset-at Inv-loop μ-loop)
     → drop (c .before .before .loop .i) (recordOf (c .before .before .before .before .args .book .now) (c .before .before .before .before .args .p) .fields) ≡ c .offset-at .result ∷ drop (c .before .before .loop .i + 1) (recordOf (c .before .before .before .before .args .book .now) (c .before .before .before .before .args .p) .fields)
@@ -45,37 +36,28 @@ left c =
     let n = fields-length (a .book .now) (a .p) (c .before .before .before .before .pre) in
     drop-turn (recordOf (a .book .now) (a .p) .fields) i (omega arith) ∙ ap (λ o. o ∷ drop (i + 1) (recordOf (a .book .now) (a .p) .fields)) (sym (c .offset-at .ensures .0))
 
---H>
-
--- src/lib.rt:48:17
 enum-told : tie.Need-enum-told Inv-loop μ-loop
 enum-told c = search needs
 
--- src/lib.rt:48:17
 returns : tie.Need-returns Inv-loop μ-loop
 returns c =
     let a = c .before .before .before .before .before .before .before .args in let l = c .before .before .before .before .before .loop in let o = c .before .before .before .offset-at .result in let text = recordOf (a .book .now) (a .p) .text in
     sym (l .inv .1 ∙ ap (λ os. overIn (a .d .0) text os) (left (c .before .before .before)) ∙ over-here (a .d .0) text o _ (moved-over (a .d) _ (sym (c .enum-told .given .1) ∙ c .before .before .moved-field .ensures)))
 
--- src/lib.rt:51:17
 enum-told-2 : tie.Need-enum-told-2 Inv-loop μ-loop
 enum-told-2 c = search needs
 
--- src/lib.rt:51:17
 add-i : tie.Need-add-i Inv-loop μ-loop
 add-i c = omega arith
 
--- src/lib.rt:44:5
 loop-less : tie.Need-loop-less Inv-loop μ-loop
 loop-less c = omega arith
 
--- src/lib.rt:44:5
 loop-again : tie.Need-loop-again Inv-loop μ-loop
 loop-again c =
     let a = c .before .before .before .before .before .before .before .args in let l = c .before .before .before .before .before .loop in let o = c .before .before .before .offset-at .result in let text = recordOf (a .book .now) (a .p) .text in
     (omega arith, l .inv .1 ∙ ap (λ os. overIn (a .d .0) text os) (left (c .before .before .before)) ∙ over-later (a .d .0) text o _ (moved-to (a .d) _ _ (sym (c .enum-told2 .given .1) ∙ c .before .before .moved-field .ensures) .1))
 
--- src/lib.rt:38:1
 returns-2 : tie.Need-returns-2 Inv-loop μ-loop
 returns-2 c =
     let a = c .before .before .before .args in let l = c .before .loop in let fields = recordOf (a .book .now) (a .p) .fields in

@@ -1,25 +1,19 @@
+-- `put_moved` meets its contract. The text is laid down, then its fields moved in place; the invariant says which are still to move.
 use borrow.Author.Needs.{needs}
 use native.Mathlib.Omega.{arith}
 use Prim.Native.Nat.{ℕ, _+_, _-_, _≤_}
 use mathlib.Core.Path.{_≡_, refl, sym, ap, subst, _∙_}
 use mathlib.Core.List.{List, _∷_}
-use mathlib.Core.Bool.{true, false}
+use mathlib.Core.Bool.{false}
 use lib.ListN.{length, drop, drop-of-length-le}
-use Rattle.values.specs.Words.{word, twoBytes}
-use Rattle.values.proofs.Laws.{drop-turn, part-between, between-length, part-length}
-use Rattle.book.specs.Reading.{recordOf, Sound}
-use Rattle.fields.specs.Fields.{overIn, overField, movedIn, movedText}
-use lib.Seq.{sets, length-sets}
+use Rattle.values.proofs.Laws.{drop-turn, part-between, between-length}
+use Rattle.book.specs.Reading.{recordOf}
+use Rattle.fields.specs.Fields.{overIn}
+use lib.Seq.{sets}
 use Rattle.book.proofs.Places.{fields-length, text-length}
 use Rattle.fields.proofs.Laws.{moved-over, moved-to, over-here, over-later, Moving, moving-start, moving-turn, moving-end}
 use Rattle.fields.proofs.put_moved.Statement.{statement}
 use Rattle.fields.proofs.put_moved.Tie as tie
-use Rattle.fields.proofs.put_moved.Reads as reads
-use Rattle.fields.proofs.put_moved.Lts as lts
-use Rattle.fields.proofs.moved_field.Reads as moved-field-reads
-use Rattle.fields.proofs.offset_at.Reads as offset-at-reads
-use Rattle.values.proofs.words.put_bytes.Reads as put-bytes-reads
-use Rattle.values.proofs.words.put_word.Reads as put-word-reads
 
 abbrev Inv-loop : tie.InvT-loop
 Inv-loop book p d m₀ to text end count i₀ m i =
@@ -29,48 +23,36 @@ Inv-loop book p d m₀ to text end count i₀ m i =
 abbrev μ-loop : tie.MeasureT-loop
 μ-loop book p d m₀ to text end count i₀ m i = count - i
 
--- src/lib.rt:64:15
 add-end : tie.Need-add-end Inv-loop μ-loop
 add-end c = search needs
 
--- src/lib.rt:65:22
 sub-put-bytes : tie.Need-sub-put-bytes Inv-loop μ-loop
 sub-put-bytes c = search needs
 
--- src/lib.rt:65:22
 part-put-bytes-start : tie.Need-part-put-bytes-start Inv-loop μ-loop
 part-put-bytes-start c = search needs
 
--- src/lib.rt:65:22
 part-put-bytes-end : tie.Need-part-put-bytes-end Inv-loop μ-loop
 part-put-bytes-end c = search needs
 
--- src/lib.rt:65:5
 put-bytes-requires : tie.Need-put-bytes-requires Inv-loop μ-loop
 put-bytes-requires c κs = let a = c .before .before .before .before .before .args in rw (between-length (a .book .now) (a .p .text) (a .p .size) (c .before .before .before .before .before .pre .0 .text)) (c .before .before .before .before .before .pre .1 .1)
 
---<H
 laid : (c : tie.After-put-bytes Inv-loop μ-loop) → c .put-bytes .last .0 ≡ sets (c .before .before .before .before .before .before .args .m .now) (c .before .before .before .before .before .before .args .to) (recordOf (c .before .before .before .before .before .before .args .book .now) (c .before .before .before .before .before .before .args .p) .text)
 laid c = let a = c .before .before .before .before .before .before .args in c .put-bytes .ensures ∙ ap (λ t. sets (a .m .now) (a .to) t) (part-between (a .book .now) (a .p .text) (a .p .size))
 
---H>
-
--- src/lib.rt:68:5
 loop-holds : tie.Need-loop-holds Inv-loop μ-loop
 loop-holds c =
     let a = c .before .before .before .before .before .before .before .before .args in
     let n = text-length (a .book .now) (a .p) (c .before .before .before .before .before .before .before .before .pre .0) in
     (omega arith, refl, c .before .before .before .before .before .before .before .before .pre .1 .0, moving-start (a .m .now) (a .to) (a .d .0) (recordOf (a .book .now) (a .p)) (omega arith) _ (laid (c .before .before)))
 
--- src/lib.rt:69:13
 offset-at-requires : tie.Need-offset-at-requires Inv-loop μ-loop
 offset-at-requires c κs = (c .before .before .before .before .before .before .before .before .before .before .pre .0, omega arith)
 
--- src/lib.rt:70:15
 moved-field-requires : tie.Need-moved-field-requires Inv-loop μ-loop
 moved-field-requires c κs = (c .before .before .before .before .before .before .before .before .before .before .before .pre .0, c .offset-at .ensures .1)
 
---<H
 -- the offsets left, the one at hand first
 left : (c : tie.After-offset-at Inv-loop μ-loop)
     → drop (c .before .before .loop .i) (recordOf (c .before .before .before .before .before .before .before .before .before .before .before .args .book .now) (c .before .before .before .before .before .before .before .before .before .before .before .args .p) .fields) ≡ c .offset-at .result ∷ drop (c .before .before .loop .i + 1) (recordOf (c .before .before .before .before .before .before .before .before .before .before .before .args .book .now) (c .before .before .before .before .before .before .before .before .before .before .before .args .p) .fields)
@@ -79,13 +61,9 @@ left c =
     let n = fields-length (a .book .now) (a .p) (c .before .before .before .before .before .before .before .before .before .before .before .pre .0) in
     drop-turn (recordOf (a .book .now) (a .p) .fields) i (omega arith) ∙ ap (λ o. o ∷ drop (i + 1) (recordOf (a .book .now) (a .p) .fields)) (sym (c .offset-at .ensures .0))
 
---H>
-
--- src/lib.rt:72:17
 enum-told : tie.Need-enum-told Inv-loop μ-loop
 enum-told c = search needs
 
---<H
 -- no field is over
 not-over : (c : tie.After-enum-told Inv-loop μ-loop) → ⊥
 not-over c =
@@ -93,21 +71,15 @@ not-over c =
     let no-more = sym (l .inv .2) ∙ ap (λ os. overIn (a .d .0) text os) (left (c .before .before .before)) ∙ over-here (a .d .0) text o _ (moved-over (a .d) _ (sym (c .enum-told .given .1) ∙ c .before .before .moved-field .ensures)) in
     let z : _≡_ {A = ℕ} 0 1 = cc no-more in omega arith
 
---H>
-
--- src/lib.rt:72:17
 same-length : tie.Need-same-length Inv-loop μ-loop
 same-length c = absurd (not-over c)
 
--- src/lib.rt:72:17
 returns : tie.Need-returns Inv-loop μ-loop
 returns c = absurd (not-over c)
 
--- src/lib.rt:74:23
 enum-known-moved : tie.Need-enum-known-moved Inv-loop μ-loop
 enum-known-moved c = search needs
 
---<H
 -- the two bytes of the field lie inside m
 room : (c : tie.After-offset-at Inv-loop μ-loop) → c .before .before .before .before .before .before .before .before .before .before .before .args .to + c .offset-at .result + 2 ≤ length (c .before .before .loop .m)
 room c =
@@ -117,25 +89,18 @@ room c =
     let size = c .before .before .before .before .before .put-bytes .kept .0 in
     omega arith
 
---H>
-
--- src/lib.rt:75:29
 add-put-word : tie.Need-add-put-word Inv-loop μ-loop
 add-put-word c = omega (arith, room (c .before .before .before .before .before))
 
--- src/lib.rt:75:17
 put-word-requires : tie.Need-put-word-requires Inv-loop μ-loop
 put-word-requires c κs = room (c .before .before .before .before .before)
 
--- src/lib.rt:76:17
 add-i : tie.Need-add-i Inv-loop μ-loop
 add-i c = omega arith
 
--- src/lib.rt:68:5
 loop-less : tie.Need-loop-less Inv-loop μ-loop
 loop-less c = omega arith
 
--- src/lib.rt:68:5
 loop-again : tie.Need-loop-again Inv-loop μ-loop
 loop-again c =
     let a = c .before .before .before .before .before .before .before .before .before .before .before .before .before .before .before .before .before .before .before .args in let l = c .before .before .before .before .before .before .before .before .before .before .loop in let o = c .before .before .before .before .before .before .before .before .offset-at .result in let text = recordOf (a .book .now) (a .p) .text in let w = c .before .before .put-word in
@@ -154,11 +119,9 @@ loop-again c =
           (subst (λ (os : List ℕ). Moving (c .before .before .before .before .before .before .before .before .before .before .before .before .before .put-bytes .last .0) (a .to) (a .d .0) (recordOf (a .book .now) (a .p)) os (l .m)) rest (l .inv .3)) (omega arith) sum (w .ensures),
     )
 
--- src/lib.rt:59:1
 same-length-2 : tie.Need-same-length-2 Inv-loop μ-loop
 same-length-2 c = c .before .loop .inv .1 ∙ c .before .before .before .before .put-bytes .kept .0
 
--- src/lib.rt:59:1
 returns-2 : tie.Need-returns-2 Inv-loop μ-loop
 returns-2 c =
     let a = c .before .before .before .before .before .before .before .before .before .before .args in let l = c .before .loop in

@@ -1,25 +1,19 @@
+-- `first_outside` meets its contract. The invariant: the first record outside is the first of those left.
 use borrow.Author.Needs.{needs}
 use native.Mathlib.Omega.{arith}
-use mathlib.Core.Path.{_≡_, refl, sym, ap, subst, _∙_}
-use Prim.Native.Nat.{ℕ, _+_, _-_, _*_, _≤_}
-use mathlib.Core.List.{List, _∷_}
+use mathlib.Core.Path.{_≡_, refl, sym, ap, _∙_}
+use Prim.Native.Nat.{_+_, _-_}
 use lib.ListN.{length}
 use Rattle.book.specs.Book.{Record}
 use Rattle.book.specs.Reading.{stepAt, recordOf, recordsIn}
 use Rattle.book.specs.declared.Step.{Step}
 use Rattle.book.proofs.Turns.{Left, start, onward, ended, never, gave, first}
-use Rattle.fields.specs.Fields.{overField}
 use Rattle.book.proofs.Places.{text-length}
 use lib.Dec.{ltb}
 use Rattle.load.specs.Load.{firstCard, outside}
 use Rattle.load.proofs.Laws.{first-hit, first-miss, first-none}
 use Rattle.load.proofs.first_outside.Statement.{statement}
 use Rattle.load.proofs.first_outside.Tie as tie
-use Rattle.load.proofs.first_outside.Reads as reads
-use Rattle.load.proofs.first_outside.Lts as lts
-use Rattle.book.proofs.Cursor.first.Reads as first-reads
-use Rattle.book.proofs.Cursor.next.Reads as next-reads
-use Rattle.load.proofs.is_outside.Reads as is-outside-reads
 
 abbrev Inv-loop : tie.InvT-loop
 Inv-loop book d room cursor₀ cursor = Left book (cursor .at) (cursor .card) (λ rs. firstCard (outside (d .0) room) (recordsIn book) ≡ firstCard (outside (d .0) room) rs)
@@ -27,68 +21,50 @@ Inv-loop book d room cursor₀ cursor = Left book (cursor .at) (cursor .card) (�
 abbrev μ-loop : tie.MeasureT-loop
 μ-loop book d room cursor₀ cursor = length book - cursor .at
 
--- src/lib.rt:60:9
 first-requires : tie.Need-first-requires Inv-loop μ-loop
 first-requires c κs = search needs
 
--- src/lib.rt:61:5
 loop-holds : tie.Need-loop-holds Inv-loop μ-loop
 loop-holds c = let (e, q) = c .before .before .pre .0 in rw (c .first .ensures .0, c .first .ensures .1) (start _ e q _ refl)
 
--- src/lib.rt:62:15
 next-requires : tie.Need-next-requires Inv-loop μ-loop
 next-requires c κs = search needs
 
--- src/lib.rt:64:17
 enum-told : tie.Need-enum-told Inv-loop μ-loop
 enum-told c = search needs
 
--- src/lib.rt:64:17
 returns : tie.Need-returns Inv-loop μ-loop
 returns c = absurd (never _ _ _ _ (c .before .before .before .loop .inv) (sym (c .enum-told .given .1) ∙ c .before .before .next .ensures))
 
--- src/lib.rt:67:17
 enum-told-2 : tie.Need-enum-told-2 Inv-loop μ-loop
 enum-told-2 c = search needs
 
--- src/lib.rt:67:17
 returns-2 : tie.Need-returns-2 Inv-loop μ-loop
 returns-2 c = sym (ended _ _ _ _ (c .before .before .before .loop .inv) (sym (c .enum-told2 .given .1) ∙ c .before .before .next .ensures) ∙ first-none _)
 
--- src/lib.rt:69:26
 enum-known-p : tie.Need-enum-known-p Inv-loop μ-loop
 enum-known-p c = search needs
 
---<H
 -- the record that the reader gave
 read : (c : tie.After-p Inv-loop μ-loop) → Step.Record (c .p .given .0 .0) (c .p .given .0 .1 .0) ≡ stepAt (c .before .before .before .before .before .before .args .book .now) (c .before .before .before .loop .cursor .at) (c .before .before .before .loop .cursor .card)
 read c = sym (c .p .given .1) ∙ c .before .before .next .ensures
 
---H>
-
--- src/lib.rt:70:20
 is-outside-requires : tie.Need-is-outside-requires Inv-loop μ-loop
 is-outside-requires c κs = let g = gave _ _ _ _ _ (read (c .before)) .sound in (g .short, g .long, c .before .before .before .before .before .before .before .pre .1)
 
---<H
 same : (c : tie.After-is-outside Inv-loop μ-loop) → outside (c .before .before .before .before .before .before .before .before .args .d .0) (c .before .before .before .before .before .before .before .before .args .room) (recordOf (c .before .before .before .before .before .before .before .before .args .book .now) (c .before .before .p .given .0 .0)) ≡ c .is-outside .result
 same c =
     let a = c .before .before .before .before .before .before .before .before .args in let p = c .before .before .p .given .0 .0 in
     ap (λ n. ltb (a .room) (p .address .0 + a .d .0 + n)) (text-length (a .book .now) p (gave _ _ _ _ _ (read (c .before .before)) .sound)) ∙ sym (c .is-outside .ensures)
 
---H>
-
--- src/lib.rt:71:21
 returns-3 : tie.Need-returns-3 Inv-loop μ-loop
 returns-3 c =
     let a = c .before .before .before .before .before .before .before .before .before .args in let l = c .before .before .before .before .before .before .loop in let q = read (c .before .before .before) in let p = c .before .before .before .p .given .0 .0 in let (rest, holds) = first _ _ _ _ (l .inv) _ _ q in
     sym (holds ∙ first-hit _ (recordOf (a .book .now) p) rest (same (c .before) ∙ c .if1 .taken))
 
--- src/lib.rt:61:5
 loop-less : tie.Need-loop-less Inv-loop μ-loop
 loop-less c = let g = gave _ _ _ _ _ (read (c .before .before .before)) in omega (arith, g .on, g .within)
 
--- src/lib.rt:61:5
 loop-again : tie.Need-loop-again Inv-loop μ-loop
 loop-again c =
     let a = c .before .before .before .before .before .before .before .before .before .args in let l = c .before .before .before .before .before .before .loop in let q = read (c .before .before .before) in let p = c .before .before .before .p .given .0 .0 in

@@ -1,8 +1,8 @@
+-- `first_over` meets its contract. The invariant: the first record that is over is the first of those left.
 use borrow.Author.Needs.{needs}
 use native.Mathlib.Omega.{arith}
-use mathlib.Core.Path.{_≡_, refl, sym, ap, subst, _∙_}
-use Prim.Native.Nat.{ℕ, _+_, _-_, _*_, _≤_}
-use mathlib.Core.List.{List, _∷_}
+use mathlib.Core.Path.{_≡_, refl, sym, _∙_}
+use Prim.Native.Nat.{_-_}
 use lib.ListN.{length}
 use Rattle.book.specs.Book.{Record}
 use Rattle.book.specs.Reading.{stepAt, recordOf, recordsIn}
@@ -13,11 +13,6 @@ use Rattle.load.specs.Load.{firstCard}
 use Rattle.load.proofs.Laws.{first-hit, first-miss, first-none}
 use Rattle.load.proofs.first_over.Statement.{statement}
 use Rattle.load.proofs.first_over.Tie as tie
-use Rattle.load.proofs.first_over.Reads as reads
-use Rattle.load.proofs.first_over.Lts as lts
-use Rattle.book.proofs.Cursor.first.Reads as first-reads
-use Rattle.book.proofs.Cursor.next.Reads as next-reads
-use Rattle.fields.proofs.over_field.Reads as over-field-reads
 
 abbrev Inv-loop : tie.InvT-loop
 Inv-loop book d cursor₀ cursor = Left book (cursor .at) (cursor .card) (λ rs. firstCard (overField (d .0)) (recordsIn book) ≡ firstCard (overField (d .0)) rs)
@@ -25,60 +20,45 @@ Inv-loop book d cursor₀ cursor = Left book (cursor .at) (cursor .card) (λ rs.
 abbrev μ-loop : tie.MeasureT-loop
 μ-loop book d cursor₀ cursor = length book - cursor .at
 
--- src/lib.rt:84:9
 first-requires : tie.Need-first-requires Inv-loop μ-loop
 first-requires c κs = search needs
 
--- src/lib.rt:85:5
 loop-holds : tie.Need-loop-holds Inv-loop μ-loop
 loop-holds c = let (e, q) = c .before .before .pre in rw (c .first .ensures .0, c .first .ensures .1) (start _ e q _ refl)
 
--- src/lib.rt:86:15
 next-requires : tie.Need-next-requires Inv-loop μ-loop
 next-requires c κs = search needs
 
--- src/lib.rt:88:17
 enum-told : tie.Need-enum-told Inv-loop μ-loop
 enum-told c = search needs
 
--- src/lib.rt:88:17
 returns : tie.Need-returns Inv-loop μ-loop
 returns c = absurd (never _ _ _ _ (c .before .before .before .loop .inv) (sym (c .enum-told .given .1) ∙ c .before .before .next .ensures))
 
--- src/lib.rt:91:17
 enum-told-2 : tie.Need-enum-told-2 Inv-loop μ-loop
 enum-told-2 c = search needs
 
--- src/lib.rt:91:17
 returns-2 : tie.Need-returns-2 Inv-loop μ-loop
 returns-2 c = sym (ended _ _ _ _ (c .before .before .before .loop .inv) (sym (c .enum-told2 .given .1) ∙ c .before .before .next .ensures) ∙ first-none _)
 
--- src/lib.rt:93:26
 enum-known-p : tie.Need-enum-known-p Inv-loop μ-loop
 enum-known-p c = search needs
 
---<H
 -- the record that the reader gave
 read : (c : tie.After-p Inv-loop μ-loop) → Step.Record (c .p .given .0 .0) (c .p .given .0 .1 .0) ≡ stepAt (c .before .before .before .before .before .before .args .book .now) (c .before .before .before .loop .cursor .at) (c .before .before .before .loop .cursor .card)
 read c = sym (c .p .given .1) ∙ c .before .before .next .ensures
 
---H>
-
--- src/lib.rt:94:20
 over-field-requires : tie.Need-over-field-requires Inv-loop μ-loop
 over-field-requires c κs = gave _ _ _ _ _ (read (c .before)) .sound
 
--- src/lib.rt:95:21
 returns-3 : tie.Need-returns-3 Inv-loop μ-loop
 returns-3 c =
     let a = c .before .before .before .before .before .before .before .before .before .args in let l = c .before .before .before .before .before .before .loop in let q = read (c .before .before .before) in let p = c .before .before .before .p .given .0 .0 in let (rest, holds) = first _ _ _ _ (l .inv) _ _ q in
     sym (holds ∙ first-hit _ (recordOf (a .book .now) p) rest (sym (c .before .over-field .ensures) ∙ c .if1 .taken))
 
--- src/lib.rt:85:5
 loop-less : tie.Need-loop-less Inv-loop μ-loop
 loop-less c = let g = gave _ _ _ _ _ (read (c .before .before .before)) in omega (arith, g .on, g .within)
 
--- src/lib.rt:85:5
 loop-again : tie.Need-loop-again Inv-loop μ-loop
 loop-again c =
     let a = c .before .before .before .before .before .before .before .before .before .args in let l = c .before .before .before .before .before .before .loop in let q = read (c .before .before .before) in let p = c .before .before .before .p .given .0 .0 in

@@ -1,8 +1,8 @@
+-- `store_all` meets its contract. The invariant: the whole storage and count are those of the records left, from the storage and count now.
 use borrow.Author.Needs.{needs}
 use native.Mathlib.Omega.{arith}
-use mathlib.Core.Path.{_≡_, refl, sym, ap, subst, _∙_}
-use Prim.Native.Nat.{ℕ, _+_, _-_, _*_, _≤_, min}
-use mathlib.Core.List.{List, _∷_}
+use mathlib.Core.Path.{_≡_, refl, sym, ap, _∙_}
+use Prim.Native.Nat.{_+_, _-_, _*_, _≤_}
 use lib.ListN.{length}
 use Rattle.book.specs.Book.{Record}
 use Rattle.book.specs.Reading.{stepAt, recordOf, recordsIn}
@@ -14,17 +14,10 @@ use borrow.Author.Tests.{ltb-false}
 use lib.Seq.{sets}
 use Rattle.book.proofs.Places.{text-length}
 use Rattle.fields.proofs.Laws.{moved-over, moved-to}
-use Rattle.load.specs.Load.{firstCard, outside, roomIn, stored, storedAll, bytesStored}
-use Rattle.load.proofs.Laws.{none-fails, stored-is, stored-none, bytes-none, Still, still-first, stored-first, bytes-first}
+use Rattle.load.specs.Load.{outside, roomIn, stored, storedAll, bytesStored}
+use Rattle.load.proofs.Laws.{none-fails, stored-is, stored-none, bytes-none, Still, still-first}
 use Rattle.load.proofs.store_all.Statement.{statement}
 use Rattle.load.proofs.store_all.Tie as tie
-use Rattle.load.proofs.store_all.Reads as reads
-use Rattle.load.proofs.store_all.Lts as lts
-use Rattle.book.proofs.Cursor.first.Reads as first-reads
-use Rattle.book.proofs.Cursor.next.Reads as next-reads
-use Rattle.fields.proofs.put_moved.Reads as put-moved-reads
-use Rattle.values.proofs.Relocatable.plus.Reads as plus-reads
-use Rattle.values.proofs.words.wide16.Reads as wide16-reads
 
 abbrev Inv-loop : tie.InvT-loop
 Inv-loop book d m₀ count₀ cursor₀ m count cursor =
@@ -34,41 +27,32 @@ Inv-loop book d m₀ count₀ cursor₀ m count cursor =
 abbrev μ-loop : tie.MeasureT-loop
 μ-loop book d m₀ count₀ cursor₀ m count cursor = length book - cursor .at
 
--- src/lib.rt:112:9
 first-requires : tie.Need-first-requires Inv-loop μ-loop
 first-requires c κs = search needs
 
--- src/lib.rt:113:5
 loop-holds : tie.Need-loop-holds Inv-loop μ-loop
 loop-holds c = let (e, q) = c .before .before .before .pre .0 in
     rw (c .first .ensures .0, c .first .ensures .1)
     (refl, omega arith, omega arith, start _ e q _ (record { storage = refl; bytes = omega arith; inside = c .before .before .before .pre .1 .0; under = c .before .before .before .pre .1 .1 }))
 
--- src/lib.rt:114:15
 next-requires : tie.Need-next-requires Inv-loop μ-loop
 next-requires c κs = search needs
 
--- src/lib.rt:116:17
 enum-told : tie.Need-enum-told Inv-loop μ-loop
 enum-told c = search needs
 
--- src/lib.rt:116:17
 same-length : tie.Need-same-length Inv-loop μ-loop
 same-length c = c .before .before .before .loop .inv .0
 
--- src/lib.rt:116:17
 returns : tie.Need-returns Inv-loop μ-loop
 returns c = absurd (never _ _ _ _ (c .before .before .before .loop .inv .3) (sym (c .enum-told .given .1) ∙ c .before .before .next .ensures))
 
--- src/lib.rt:119:17
 enum-told-2 : tie.Need-enum-told-2 Inv-loop μ-loop
 enum-told-2 c = search needs
 
--- src/lib.rt:119:17
 same-length-2 : tie.Need-same-length-2 Inv-loop μ-loop
 same-length-2 c = c .before .before .before .loop .inv .0
 
--- src/lib.rt:119:17
 returns-2 : tie.Need-returns-2 Inv-loop μ-loop
 returns-2 c =
     let l = c .before .before .before .loop in
@@ -77,15 +61,12 @@ returns-2 c =
     let none = bytes-none in
     ((omega arith, omega arith), sym (still .storage ∙ stored-none _ _))
 
--- src/lib.rt:121:26
 enum-known-p : tie.Need-enum-known-p Inv-loop μ-loop
 enum-known-p c = search needs
 
--- src/lib.rt:122:23
 plus-requires : tie.Need-plus-requires Inv-loop μ-loop
 plus-requires c κs = search needs
 
---<H
 -- the record that the reader gave
 read : (c : tie.After-p Inv-loop μ-loop) → Step.Record (c .p .given .0 .0) (c .p .given .0 .1 .0) ≡ stepAt (c .before .before .before .before .before .before .before .args .book .now) (c .before .before .before .loop .cursor .at) (c .before .before .before .loop .cursor .card)
 read c = sym (c .p .given .1) ∙ c .before .before .next .ensures
@@ -101,17 +82,12 @@ fits c =
     let low = ltb-false (roomIn (a .m .now)) (p .address .0 + a .d .0 + length (recordOf (a .book .now) p .text)) inside in
     (omega arith, none-fails (overField (a .d .0)) (recordOf (a .book .now) p) rest (g .card .0) (still .under) .0)
 
---H>
-
--- src/lib.rt:124:25
 enum-told-3 : tie.Need-enum-told-3 Inv-loop μ-loop
 enum-told-3 c = search needs
 
--- src/lib.rt:124:25
 same-length-3 : tie.Need-same-length-3 Inv-loop μ-loop
 same-length-3 c = c .before .before .before .before .before .before .before .loop .inv .0
 
--- src/lib.rt:124:25
 returns-3 : tie.Need-returns-3 Inv-loop μ-loop
 returns-3 c =
     let low = fits (c .before .before .before .before) .0 in
@@ -119,36 +95,27 @@ returns-3 c =
     let over = moved-over _ _ (sym (c .enum-told3 .given .1) ∙ c .before .before .plus .ensures) in
     absurd (omega arith)
 
--- src/lib.rt:126:31
 enum-known-address : tie.Need-enum-known-address Inv-loop μ-loop
 enum-known-address c = search needs
 
--- src/lib.rt:127:50
 wide16-requires : tie.Need-wide16-requires Inv-loop μ-loop
 wide16-requires c κs = search needs
 
---<H
 -- where the text goes
 place-is : (c : tie.After-wide16 Inv-loop μ-loop) → c .wide16 .result ≡ c .before .before .before .before .before .before .before .p .given .0 .0 .address .0 + c .before .before .before .before .before .before .before .before .before .before .before .before .before .before .args .d .0
 place-is c = c .wide16 .ensures .0 ∙ moved-to _ _ _ (sym (c .before .before .before .address .given .1) ∙ c .before .before .before .before .before .plus .ensures) .0
 
---H>
-
--- src/lib.rt:127:25
 put-moved-requires : tie.Need-put-moved-requires Inv-loop μ-loop
 put-moved-requires c κs =
     let low = fits (c .before .before .before .before .before .before .before) in let to = place-is c in let same = c .before .before .before .before .before .before .before .before .before .before .loop .inv .0 in
     (gave _ _ _ _ _ (read (c .before .before .before .before .before .before .before)) .sound, (low .1, omega (arith, low .0)))
 
--- src/lib.rt:128:25
 add-count : tie.Need-add-count Inv-loop μ-loop
 add-count c = let short = gave _ _ _ _ _ (read (c .before .before .before .before .before .before .before .before .before .before .before)) .sound .short in let l = c .before .before .before .before .before .before .before .before .before .before .before .before .before .before .loop .inv in omega (arith, l .1, l .2)
 
--- src/lib.rt:113:5
 loop-less : tie.Need-loop-less Inv-loop μ-loop
 loop-less c = let g = gave _ _ _ _ _ (read (c .before .before .before .before .before .before .before .before .before .before .before)) in omega (arith, g .on, g .within)
 
--- src/lib.rt:113:5
 loop-again : tie.Need-loop-again Inv-loop μ-loop
 loop-again c =
     let a = c .before .before .before .before .before .before .before .before .before .before .before .before .before .before .before .before .before .before .args in let l = c .before .before .before .before .before .before .before .before .before .before .before .before .before .before .loop in let p = c .before .before .before .before .before .before .before .before .before .before .before .p .given .0 .0 in let w = c .before .before .before .put-moved in

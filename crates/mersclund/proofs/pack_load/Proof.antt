@@ -1,68 +1,50 @@
-use native.Mathlib.Omega.{arith}
-use mathlib.Core.Path.{_≡_, refl, sym, ap, _∙_}
-use Rattle.mersclund.specs.Packed.{packedEntry, packedLoad}
+-- `pack_load` meets its contract. By cases of the answer.
+use mathlib.Core.Path.{sym, ap, _∙_}
+use Rattle.mersclund.specs.Packed.{packedLoad}
 use Prim.Native.Nat.{_+_}
 use borrow.Author.Needs.{needs}
 use Rattle.mersclund.proofs.pack_load.Statement.{statement}
 use Rattle.mersclund.proofs.pack_load.Tie as tie
-use Rattle.mersclund.proofs.pack_load.Reads as reads
-use Rattle.mersclund.proofs.pack_load.Lts as lts
-use Rattle.mersclund.proofs.pack_entry.Reads as pack-entry-reads
-use Rattle.mersclund.proofs.pack_refusal.Reads as pack-refusal-reads
 
--- src/lib.rt:32:24
 enum-known-answer : tie.Need-enum-known-answer
 enum-known-answer c = search needs
 
--- src/lib.rt:32:41
 cast-result : tie.Need-cast-result
 cast-result c = search needs
 
--- src/lib.rt:32:56
 pack-entry-requires : tie.Need-pack-entry-requires
 pack-entry-requires c κs = search needs
 
--- src/lib.rt:32:41
 add-result : tie.Need-add-result
 add-result c = search needs
 
--- src/lib.rt:33:27
 enum-told : tie.Need-enum-told
 enum-told c = search needs
 
--- src/lib.rt:33:27
 pack-refusal-requires : tie.Need-pack-refusal-requires
 pack-refusal-requires c κs = search needs
 
--- src/lib.rt:34:25
 enum-known-answer-2 : tie.Need-enum-known-answer-2
 enum-known-answer-2 c = search needs
 
--- src/lib.rt:34:34
 pack-refusal-requires-2 : tie.Need-pack-refusal-requires-2
 pack-refusal-requires-2 c κs = search needs
 
--- src/lib.rt:35:22
 enum-known-answer-3 : tie.Need-enum-known-answer-3
 enum-known-answer-3 c = search needs
 
--- src/lib.rt:35:31
 pack-refusal-requires-3 : tie.Need-pack-refusal-requires-3
 pack-refusal-requires-3 c κs = search needs
 
--- src/lib.rt:28:1
 returns : tie.Need-returns
 returns c = ap (λ e. c .before .before .answer .given .0 .0 + e) (c .pack-entry .ensures .0) ∙ sym (ap packedLoad (c .before .before .answer .given .1))
 
--- src/lib.rt:28:1
 returns-2 : tie.Need-returns-2
 returns-2 c = search needs
 
--- src/lib.rt:28:1
 returns-3 : tie.Need-returns-3
 returns-3 c = c .pack-refusal2 .ensures ∙ sym (ap packedLoad (c .before .before .answer2 .given .1))
 
--- src/lib.rt:28:1
 returns-4 : tie.Need-returns-4
 returns-4 c = c .pack-refusal3 .ensures ∙ sym (ap packedLoad (c .before .before .answer3 .given .1))
 

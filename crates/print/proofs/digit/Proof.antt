@@ -1,24 +1,18 @@
-use native.Mathlib.Omega.{arith}
+-- `digit` meets its contract. By the test.
 use borrow.Author.Tests.{lt-ltb, le-ltb}
 use borrow.Author.Needs.{needs}
 use Rattle.print.proofs.digit.Statement.{statement}
 use Rattle.print.proofs.digit.Tie as tie
-use Rattle.print.proofs.digit.Reads as reads
-use Rattle.print.proofs.digit.Lts as lts
 
--- src/lib.rt:22:17
 add-result : tie.Need-add-result
 add-result c = search needs
 
--- src/lib.rt:22:33
 add-result-2 : tie.Need-add-result-2
 add-result-2 c = search needs
 
--- src/lib.rt:18:1
 returns : tie.Need-returns
 returns c = simp (lt-ltb _ _ (c .if1 .taken))
 
--- src/lib.rt:18:1
 returns-2 : tie.Need-returns-2
 returns-2 c = simp (le-ltb _ _ (c .if1 .left))
 

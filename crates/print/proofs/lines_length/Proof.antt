@@ -1,22 +1,18 @@
+-- `lines_length` meets its contract. The invariant: the whole length is the sum so far and the lines left.
 use borrow.Author.Needs.{needs}
 use native.Mathlib.Omega.{arith}
-use mathlib.Core.Path.{_≡_, refl, sym, ap, _∙_}
+use mathlib.Core.Path.{_≡_, sym, ap, _∙_}
 use Rattle.book.specs.Book.{Record}
 use Rattle.book.specs.Reading.{stepAt, recordOf, recordsIn}
 use Rattle.book.specs.declared.Step.{Step}
 use Rattle.book.proofs.Turns.{Left, start, onward, first, ended, never, gave}
-use Rattle.print.specs.Print.{recordLine, recordLines, lineLength}
+use Rattle.print.specs.Print.{recordLine, recordLines}
 use lib.ListN.{length, length-append}
 use Prim.Native.Nat.{_+_, _-_, _*_, _≤_}
 use Rattle.book.proofs.Places.{fields-length, text-length}
 use Rattle.print.proofs.Laws.{lines-first, lines-none, line-length}
 use Rattle.print.proofs.lines_length.Statement.{statement}
 use Rattle.print.proofs.lines_length.Tie as tie
-use Rattle.print.proofs.lines_length.Reads as reads
-use Rattle.print.proofs.lines_length.Lts as lts
-use Rattle.book.proofs.Cursor.first.Reads as first-reads
-use Rattle.book.proofs.Cursor.next.Reads as next-reads
-use Rattle.print.proofs.line_length.Reads as line-length-reads
 
 abbrev Inv-loop : tie.InvT-loop
 Inv-loop book sum₀ cursor₀ sum cursor = (sum ≤ 788 * cursor .card) × (cursor .card ≤ 4000) × Left book (cursor .at) (cursor .card) (λ rs. length (recordLines (recordsIn book)) ≡ sum + length (recordLines rs))
@@ -24,58 +20,43 @@ Inv-loop book sum₀ cursor₀ sum cursor = (sum ≤ 788 * cursor .card) × (cur
 abbrev μ-loop : tie.MeasureT-loop
 μ-loop book sum₀ cursor₀ sum cursor = length book - cursor .at
 
--- src/lib.rt:132:9
 first-requires : tie.Need-first-requires Inv-loop μ-loop
 first-requires c κs = search needs
 
--- src/lib.rt:133:5
 loop-holds : tie.Need-loop-holds Inv-loop μ-loop
 loop-holds c = let (e, q) = c .before .before .pre in rw (c .first .ensures .0, c .first .ensures .1) (omega arith, omega arith, start _ e q _ (omega arith))
 
--- src/lib.rt:134:15
 next-requires : tie.Need-next-requires Inv-loop μ-loop
 next-requires c κs = search needs
 
--- src/lib.rt:136:17
 enum-told : tie.Need-enum-told Inv-loop μ-loop
 enum-told c = search needs
 
--- src/lib.rt:136:17
 returns : tie.Need-returns Inv-loop μ-loop
 returns c = absurd (never _ _ _ _ (c .before .before .before .loop .inv .2) (sym (c .enum-told .given .1) ∙ c .before .before .next .ensures))
 
--- src/lib.rt:139:17
 enum-told-2 : tie.Need-enum-told-2 Inv-loop μ-loop
 enum-told-2 c = search needs
 
--- src/lib.rt:139:17
 returns-2 : tie.Need-returns-2 Inv-loop μ-loop
 returns-2 c = let l = c .before .before .before .loop in let e = ended _ _ _ _ (l .inv .2) (sym (c .enum-told2 .given .1) ∙ c .before .before .next .ensures) in let n = ap length lines-none in (omega arith, omega arith)
 
--- src/lib.rt:141:26
 enum-known-p : tie.Need-enum-known-p Inv-loop μ-loop
 enum-known-p c = search needs
 
---<H
 -- the record that the reader gave
 read : (c : tie.After-p Inv-loop μ-loop) → Step.Record (c .p .given .0 .0) (c .p .given .0 .1 .0) ≡ stepAt (c .before .before .before .before .before .before .args .book .now) (c .before .before .before .loop .cursor .at) (c .before .before .before .loop .cursor .card)
 read c = sym (c .p .given .1) ∙ c .before .before .next .ensures
 
---H>
-
--- src/lib.rt:142:24
 line-length-requires : tie.Need-line-length-requires Inv-loop μ-loop
 line-length-requires c κs = let g = gave _ _ _ _ _ (read (c .before)) .sound in (g .few, g .short)
 
--- src/lib.rt:142:17
 add-sum : tie.Need-add-sum Inv-loop μ-loop
 add-sum c = let l = c .before .before .before .before .before .loop .inv in let r = c .line-length .ensures .1 in omega (arith, l .0, l .1)
 
--- src/lib.rt:133:5
 loop-less : tie.Need-loop-less Inv-loop μ-loop
 loop-less c = let g = gave _ _ _ _ _ (read (c .before .before)) in omega (arith, g .on, g .within)
 
--- src/lib.rt:133:5
 loop-again : tie.Need-loop-again Inv-loop μ-loop
 loop-again c =
     let a = c .before .before .before .before .before .before .before .before .args in let l = c .before .before .before .before .before .loop in let q = read (c .before .before) in let p = c .before .before .p .given .0 .0 in

@@ -1,68 +1,50 @@
+-- `print_book` meets its contract. The bytes for each return.
 use borrow.Author.Needs.{needs}
 use native.Mathlib.Omega.{arith}
-use mathlib.Core.Path.{_≡_, refl, sym, ap, _∙_}
+use mathlib.Core.Path.{sym, _∙_}
 use Rattle.print.proofs.Laws.{is-long, is-broken, is-whole, by-bytes}
 use Rattle.print.proofs.print_book.Statement.{statement}
 use Rattle.print.proofs.print_book.Tie as tie
-use Rattle.print.proofs.print_book.Reads as reads
-use Rattle.print.proofs.print_book.Lts as lts
-use Rattle.book.proofs.read_layout.Reads as read-layout-reads
-use Rattle.print.proofs.print_line.Reads as print-line-reads
-use Rattle.print.proofs.print_lines.Reads as print-lines-reads
 
--- src/lib.rt:204:27
 slice-aggregate-print-line : tie.Need-slice-aggregate-print-line
 slice-aggregate-print-line c = search needs
 
--- src/lib.rt:204:9
 print-line-requires : tie.Need-print-line-requires
 print-line-requires c κs = search needs
 
--- src/lib.rt:204:9
 same-length : tie.Need-same-length
 same-length c = search needs
 
--- src/lib.rt:204:9
 returns : tie.Need-returns
 returns c = by-bytes _ _ _ _ _ (is-long _ (omega arith)) (c .before .before .print-line .ensures .0) (c .before .before .print-line .ensures .1)
 
--- src/lib.rt:206:11
 read-layout-requires : tie.Need-read-layout-requires
 read-layout-requires c κs = search needs
 
--- src/lib.rt:207:38
 enum-told : tie.Need-enum-told
 enum-told c = search needs
 
--- src/lib.rt:207:38
 slice-aggregate-print-line-2 : tie.Need-slice-aggregate-print-line-2
 slice-aggregate-print-line-2 c = search needs
 
--- src/lib.rt:207:27
 print-line-requires-2 : tie.Need-print-line-requires-2
 print-line-requires-2 c κs = search needs
 
--- src/lib.rt:208:48
 enum-told-2 : tie.Need-enum-told-2
 enum-told-2 c = search needs
 
--- src/lib.rt:208:29
 print-lines-requires : tie.Need-print-lines-requires
 print-lines-requires c κs = (c .before .enum-told2 .given .0 .0, sym (c .before .enum-told2 .given .1) ∙ c .before .before .before .read-layout .ensures)
 
--- src/lib.rt:199:1
 same-length-2 : tie.Need-same-length-2
 same-length-2 c = search needs
 
--- src/lib.rt:199:1
 returns-2 : tie.Need-returns-2
 returns-2 c = by-bytes _ _ _ _ _ (is-broken _ (omega arith) (sym (c .before .before .before .before .before .enum-told .given .1) ∙ c .before .before .before .before .before .before .before .read-layout .ensures)) (c .before .before .print-line2 .ensures .0) (c .before .before .print-line2 .ensures .1)
 
--- src/lib.rt:199:1
 same-length-3 : tie.Need-same-length-3
 same-length-3 c = search needs
 
--- src/lib.rt:199:1
 returns-3 : tie.Need-returns-3
 returns-3 c = by-bytes _ _ _ _ _ (is-whole _ _ (omega arith) (sym (c .before .before .before .before .enum-told2 .given .1) ∙ c .before .before .before .before .before .before .read-layout .ensures)) (c .before .before .print-lines .ensures .0) (c .before .before .print-lines .ensures .1)
 

@@ -1,26 +1,20 @@
+-- `print_line` meets its contract. Room or none.
 use borrow.Author.Needs.{needs}
 use native.Mathlib.Omega.{arith}
-use mathlib.Core.Path.{_≡_, refl, sym, ap, _∙_}
+use mathlib.Core.Path.{refl, sym, _∙_}
 use Rattle.print.proofs.Laws.{room, no-room}
 use Rattle.print.proofs.print_line.Statement.{statement}
 use Rattle.print.proofs.print_line.Tie as tie
-use Rattle.print.proofs.print_line.Reads as reads
-use Rattle.print.proofs.print_line.Lts as lts
-use Rattle.values.proofs.words.put_bytes.Reads as put-bytes-reads
 
--- src/lib.rt:193:9
 put-bytes-requires : tie.Need-put-bytes-requires
 put-bytes-requires c κs = search needs
 
--- src/lib.rt:188:1
 same-length : tie.Need-same-length
 same-length c = search needs
 
--- src/lib.rt:188:1
 returns : tie.Need-returns
 returns c = (refl, c .before .before .put-bytes .ensures ∙ sym (room (c .before .before .before .before .before .before .before .args .line .now) (c .before .before .before .before .before .before .before .args .out .now) (omega arith)))
 
--- src/lib.rt:188:1
 returns-2 : tie.Need-returns-2
 returns-2 c = (refl, sym (no-room (c .before .before .before .args .line .now) (c .before .before .before .args .out .now) (omega arith)))
 

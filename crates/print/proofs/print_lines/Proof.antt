@@ -1,7 +1,7 @@
+-- `print_lines` meets its contract. Room or none; header and records one after the other.
 use borrow.Author.Needs.{needs}
 use native.Mathlib.Omega.{arith}
-use mathlib.Core.Path.{_≡_, refl, sym, ap, _∙_}
-use mathlib.Core.List.{_++_}
+use mathlib.Core.Path.{_≡_, sym, ap, _∙_}
 use lib.ListN.{length, length-append}
 use lib.Seq.{sets}
 use Rattle.book.specs.Reading.{recordsIn}
@@ -11,33 +11,22 @@ use Rattle.print.specs.Print.{headerLine, recordLines, bookLines}
 use Rattle.print.proofs.Laws.{room, no-room, lines-are, header-length, then}
 use Rattle.print.proofs.print_lines.Statement.{statement}
 use Rattle.print.proofs.print_lines.Tie as tie
-use Rattle.print.proofs.print_lines.Reads as reads
-use Rattle.print.proofs.print_lines.Lts as lts
-use Rattle.print.proofs.lines_length.Reads as lines-length-reads
-use Rattle.print.proofs.put_header.Reads as put-header-reads
-use Rattle.print.proofs.put_records.Reads as put-records-reads
 
--- src/lib.rt:179:20
 lines-length-requires : tie.Need-lines-length-requires
 lines-length-requires c κs = search needs
 
--- src/lib.rt:179:15
 add-all : tie.Need-add-all
 add-all c = search needs
 
--- src/lib.rt:181:13
 put-header-requires : tie.Need-put-header-requires
 put-header-requires c κs = let (e, q) = c .before .before .before .before .before .pre in let all = c .before .before .lines-length .ensures .0 in (omega arith, long-enough _ e q)
 
--- src/lib.rt:182:9
 put-records-requires : tie.Need-put-records-requires
 put-records-requires c κs = search needs
 
--- src/lib.rt:174:1
 same-length : tie.Need-same-length
 same-length c = search needs
 
---<H
 whole : (c : tie.After-lines-length) → 20 + c .lines-length .result ≡ length (bookLines (c .before .before .before .args .book .now))
 whole c =
     let s = c .before .before .before .args .book .now in
@@ -48,9 +37,6 @@ whole c =
     let n = c .lines-length .ensures .0 in
     omega arith
 
---H>
-
--- src/lib.rt:174:1
 returns : tie.Need-returns
 returns c =
     let a = c .before .before .before .before .before .before .before .before .before .before .before .before .args in let s = a .book .now in
@@ -61,7 +47,6 @@ returns c =
           ∙ ap (λ vs. sets (a .out .now) 0 vs) (sym (lines-are s)) ∙ sym (room _ (a .out .now) (omega arith)),
     )
 
--- src/lib.rt:174:1
 returns-2 : tie.Need-returns-2
 returns-2 c = let n = whole (c .before) in (n, sym (no-room _ (c .before .before .before .before .args .out .now) (omega (arith, n))))
 

@@ -1,52 +1,39 @@
+-- `put_head` meets its contract. Four columns written one after the other.
 use borrow.Author.Needs.{needs}
 use native.Mathlib.Omega.{arith}
-use mathlib.Core.Path.{_≡_, refl, sym, ap, _∙_}
+use mathlib.Core.Path.{sym, ap, _∙_}
 use lib.Seq.{sets}
 use Rattle.print.proofs.Laws.{head-is, then-column}
 use Rattle.print.proofs.put_head.Statement.{statement}
 use Rattle.print.proofs.put_head.Tie as tie
-use Rattle.print.proofs.put_head.Reads as reads
-use Rattle.print.proofs.put_head.Lts as lts
-use Rattle.print.proofs.put_count.Reads as put-count-reads
-use Rattle.print.proofs.put_number.Reads as put-number-reads
 
--- src/lib.rt:102:16
 add-rest : tie.Need-add-rest
 add-rest c = search needs
 
--- src/lib.rt:102:16
 add-rest-2 : tie.Need-add-rest-2
 add-rest-2 c = search needs
 
--- src/lib.rt:103:34
 cast-put-number : tie.Need-cast-put-number
 cast-put-number c = search needs
 
--- src/lib.rt:103:9
 put-number-requires : tie.Need-put-number-requires
 put-number-requires c κs = search needs
 
--- src/lib.rt:104:9
 put-number-requires-2 : tie.Need-put-number-requires-2
 put-number-requires-2 c κs = search needs
 
--- src/lib.rt:105:9
 put-number-requires-3 : tie.Need-put-number-requires-3
 put-number-requires-3 c κs = search needs
 
--- src/lib.rt:106:25
 cast-put-count : tie.Need-cast-put-count
 cast-put-count c = search needs
 
--- src/lib.rt:106:5
 put-count-requires : tie.Need-put-count-requires
 put-count-requires c κs = search needs
 
--- src/lib.rt:97:1
 same-length : tie.Need-same-length
 same-length c = search needs
 
--- src/lib.rt:97:1
 returns : tie.Need-returns
 returns c =
     let a = c .before .before .before .before .before .before .before .before .before .before .before .before .before .before .before .before .before .before .before .before .args in let p = c .before .before .before .before .before .before .before .before .before .before .before .before .before .before .before .put-number in let q = c .before .before .before .before .before .before .before .before .before .before .before .put-number2 in let r = c .before .before .before .before .before .before .before .put-number3 in let t = c .before .before .put-count in

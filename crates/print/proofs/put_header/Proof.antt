@@ -1,86 +1,64 @@
+-- `put_header` meets its contract. Four columns written one after the other.
 use borrow.Author.Needs.{needs}
 use native.Mathlib.Omega.{arith}
-use mathlib.Core.Path.{_≡_, refl, sym, ap, _∙_}
-use Rattle.print.proofs.Laws.{header-is, then-column, column-length, then}
+use mathlib.Core.Path.{sym, ap, _∙_}
+use Rattle.print.proofs.Laws.{header-is, then-column}
 use Rattle.values.proofs.Laws.{part-length}
 use lib.Seq.{sets}
-use Rattle.values.specs.Words.{part}
-use Rattle.print.specs.Print.{column}
 use Rattle.print.proofs.put_header.Statement.{statement}
 use Rattle.print.proofs.put_header.Tie as tie
-use Rattle.print.proofs.put_header.Reads as reads
-use Rattle.print.proofs.put_header.Lts as lts
-use Rattle.print.proofs.put_column.Reads as put-column-reads
 
--- src/lib.rt:73:36
 sub-put-column : tie.Need-sub-put-column
 sub-put-column c = search needs
 
--- src/lib.rt:73:36
 part-put-column-start : tie.Need-part-put-column-start
 part-put-column-start c = search needs
 
--- src/lib.rt:73:36
 part-put-column-end : tie.Need-part-put-column-end
 part-put-column-end c = search needs
 
--- src/lib.rt:73:9
 put-column-requires : tie.Need-put-column-requires
 put-column-requires c κs = search needs
 
--- src/lib.rt:74:39
 sub-put-column-2 : tie.Need-sub-put-column-2
 sub-put-column-2 c = search needs
 
--- src/lib.rt:74:39
 part-put-column-start-2 : tie.Need-part-put-column-start-2
 part-put-column-start-2 c = search needs
 
--- src/lib.rt:74:39
 part-put-column-end-2 : tie.Need-part-put-column-end-2
 part-put-column-end-2 c = search needs
 
--- src/lib.rt:74:9
 put-column-requires-2 : tie.Need-put-column-requires-2
 put-column-requires-2 c κs = search needs
 
--- src/lib.rt:75:37
 sub-put-column-3 : tie.Need-sub-put-column-3
 sub-put-column-3 c = search needs
 
--- src/lib.rt:75:37
 part-put-column-start-3 : tie.Need-part-put-column-start-3
 part-put-column-start-3 c = search needs
 
--- src/lib.rt:75:37
 part-put-column-end-3 : tie.Need-part-put-column-end-3
 part-put-column-end-3 c = search needs
 
--- src/lib.rt:75:9
 put-column-requires-3 : tie.Need-put-column-requires-3
 put-column-requires-3 c κs = search needs
 
--- src/lib.rt:76:26
 sub-put-column-4 : tie.Need-sub-put-column-4
 sub-put-column-4 c = search needs
 
--- src/lib.rt:76:26
 part-put-column-start-4 : tie.Need-part-put-column-start-4
 part-put-column-start-4 c = search needs
 
--- src/lib.rt:76:26
 part-put-column-end-4 : tie.Need-part-put-column-end-4
 part-put-column-end-4 c = search needs
 
--- src/lib.rt:76:5
 put-column-requires-4 : tie.Need-put-column-requires-4
 put-column-requires-4 c κs = search needs
 
--- src/lib.rt:68:1
 same-length : tie.Need-same-length
 same-length c = search needs
 
--- src/lib.rt:68:1
 returns : tie.Need-returns
 returns c =
     let a = c .before .before .before .before .before .before .before .before .before .before .before .before .before .before .before .before .before .before .before .before .before .before .args in let s = a .book .now in let p = c .before .before .before .before .before .before .before .before .before .before .before .before .before .before .before .before .before .put-column in let q = c .before .before .before .before .before .before .before .before .before .before .before .before .put-column2 in let r = c .before .before .before .before .before .before .before .put-column3 in let t = c .before .before .put-column4 in let long = c .before .before .before .before .before .before .before .before .before .before .before .before .before .before .before .before .before .before .before .before .before .before .pre .1 in

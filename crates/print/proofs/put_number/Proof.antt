@@ -1,5 +1,6 @@
+-- `put_number` meets its contract. The two bytes of the number, as a column.
 use native.Mathlib.Omega.{arith}
-use mathlib.Core.Path.{_≡_, refl, sym, ap, _∙_}
+use mathlib.Core.Path.{_≡_, ap, _∙_}
 use Prim.Native.Nat.{_/_, _%_}
 use mathlib.Core.List.{[], _∷_}
 use lib.Seq.{sets}
@@ -7,31 +8,22 @@ use Rattle.print.specs.Print.{column}
 use borrow.Author.Needs.{needs}
 use Rattle.print.proofs.put_number.Statement.{statement}
 use Rattle.print.proofs.put_number.Tie as tie
-use Rattle.print.proofs.put_number.Reads as reads
-use Rattle.print.proofs.put_number.Lts as lts
-use Rattle.print.proofs.put_column.Reads as put-column-reads
 
--- src/lib.rt:52:16
 cast-high : tie.Need-cast-high
 cast-high c = search needs
 
--- src/lib.rt:53:15
 cast-low : tie.Need-cast-low
 cast-low c = search needs
 
--- src/lib.rt:55:23
 slice-aggregate-put-column : tie.Need-slice-aggregate-put-column
 slice-aggregate-put-column c = search needs
 
--- src/lib.rt:55:5
 put-column-requires : tie.Need-put-column-requires
 put-column-requires c κs = search needs
 
--- src/lib.rt:47:1
 same-length : tie.Need-same-length
 same-length c = search needs
 
--- src/lib.rt:47:1
 returns : tie.Need-returns
 returns c =
     let a = c .before .before .before .before .before .before .args in

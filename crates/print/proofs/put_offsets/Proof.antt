@@ -1,8 +1,8 @@
+-- `put_offsets` meets its contract. A - or a column.
 use borrow.Author.Needs.{needs}
 use native.Mathlib.Omega.{arith}
-use mathlib.Core.Path.{_≡_, refl, sym, ap, _∙_}
+use mathlib.Core.Path.{sym, ap, _∙_}
 use native.Mathlib.Numerals.{add-one}
-use Prim.Native.Nat.{_+_}
 use lib.ListN.{length-set}
 use lib.Seq.{sets}
 use Rattle.values.proofs.Laws.{part-between, between-length}
@@ -12,63 +12,47 @@ use Rattle.book.proofs.Places.{fields-length}
 use Rattle.print.proofs.Laws.{offsets-none, offsets-some, length-none, length-some}
 use Rattle.print.proofs.put_offsets.Statement.{statement}
 use Rattle.print.proofs.put_offsets.Tie as tie
-use Rattle.print.proofs.put_offsets.Reads as reads
-use Rattle.print.proofs.put_offsets.Lts as lts
-use Rattle.print.proofs.put_column.Reads as put-column-reads
 
--- src/lib.rt:87:9
 slice-write-m : tie.Need-slice-write-m
 slice-write-m c = let n = length-none (c .before .before .before .args .p .count) (c .if1 .taken) in omega arith
 
--- src/lib.rt:88:11
 add-m : tie.Need-add-m
 add-m c = search needs
 
--- src/lib.rt:88:9
 slice-write-m-2 : tie.Need-slice-write-m-2
 slice-write-m-2 c = let n = length-none (c .before .before .before .args .p .count) (c .if1 .taken) in simp length-set (omega arith)
 
--- src/lib.rt:89:16
 add-result : tie.Need-add-result
 add-result c = search needs
 
--- src/lib.rt:89:9
 same-length : tie.Need-same-length
 same-length c = search needs
 
--- src/lib.rt:89:9
 returns : tie.Need-returns
 returns c = let a = c .before .before .before .args in
     let n = length-none (a .p .count) (c .if1 .taken) in
     (omega arith, rw (offsets-none (recordOf (a .book .now) (a .p) .fields) (fields-length (a .book .now) (a .p) (c .before .before .before .pre .0) ∙ c .if1 .taken), add-one))
 
--- src/lib.rt:92:15
 add-end : tie.Need-add-end
 add-end c = search needs
 
--- src/lib.rt:93:23
 sub-put-column : tie.Need-sub-put-column
 sub-put-column c = search needs
 
--- src/lib.rt:93:23
 part-put-column-start : tie.Need-part-put-column-start
 part-put-column-start c = search needs
 
--- src/lib.rt:93:23
 part-put-column-end : tie.Need-part-put-column-end
 part-put-column-end c = search needs
 
--- src/lib.rt:93:5
 put-column-requires : tie.Need-put-column-requires
 put-column-requires c κs = let a = c .before .before .before .before .before .args in
     let n = length-some (a .p .count) (c .before .before .if1 .left) in
     rw (between-length (a .book .now) (a .p .fields) (a .p .count) (c .before .before .before .before .before .pre .0 .fields)) (omega arith)
 
--- src/lib.rt:80:1
 same-length-2 : tie.Need-same-length-2
 same-length-2 c = search needs
 
--- src/lib.rt:80:1
 returns-2 : tie.Need-returns-2
 returns-2 c = let a = c .before .before .before .before .before .before .before .before .args in let r = c .before .before .put-column in let fields = recordOf (a .book .now) (a .p) .fields in
     let n = length-some (a .p .count) (c .before .before .before .before .before .if1 .left) in

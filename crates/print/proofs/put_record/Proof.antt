@@ -1,6 +1,7 @@
+-- `put_record` meets its contract. Three writes one after the other.
 use borrow.Author.Needs.{needs}
 use native.Mathlib.Omega.{arith}
-use mathlib.Core.Path.{_≡_, refl, sym, ap, _∙_}
+use mathlib.Core.Path.{sym, ap, _∙_}
 use Prim.Native.Nat.{_+_}
 use lib.Seq.{sets}
 use Rattle.book.specs.Reading.{recordOf}
@@ -10,29 +11,19 @@ use Rattle.print.specs.Print.{offsetsLength, headColumns, offsets, colum
 use Rattle.print.proofs.Laws.{head-length, offsets-length, line-is, then}
 use Rattle.print.proofs.put_record.Statement.{statement}
 use Rattle.print.proofs.put_record.Tie as tie
-use Rattle.print.proofs.put_record.Reads as reads
-use Rattle.print.proofs.put_record.Lts as lts
-use Rattle.print.proofs.put_head.Reads as put-head-reads
-use Rattle.print.proofs.put_offsets.Reads as put-offsets-reads
-use Rattle.print.proofs.put_text.Reads as put-text-reads
 
--- src/lib.rt:126:9
 put-head-requires : tie.Need-put-head-requires
 put-head-requires c κs = search needs
 
--- src/lib.rt:127:9
 put-offsets-requires : tie.Need-put-offsets-requires
 put-offsets-requires c κs = search needs
 
--- src/lib.rt:128:5
 put-text-requires : tie.Need-put-text-requires
 put-text-requires c κs = search needs
 
--- src/lib.rt:121:1
 same-length : tie.Need-same-length
 same-length c = search needs
 
--- src/lib.rt:121:1
 returns : tie.Need-returns
 returns c =
     let a = c .before .before .before .before .before .before .before .before .before .before .before .before .before .before .args in let s = a .book .now in let ok = c .before .before .before .before .before .before .before .before .before .before .before .before .before .before .pre .0 in

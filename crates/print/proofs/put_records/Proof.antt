@@ -1,3 +1,4 @@
+-- `put_records` meets its contract. The invariant: writing all lines is writing those left, from the place now.
 use borrow.Author.Needs.{needs}
 use native.Mathlib.Omega.{arith}
 use mathlib.Core.Path.{_≡_, refl, sym, ap, _∙_}
@@ -7,18 +8,13 @@ use Rattle.book.specs.declared.Step.{Step}
 use Rattle.book.proofs.Turns.{Left, start, onward, first, ended, never, gave}
 use Rattle.print.specs.Print.{recordLine, recordLines, lineLength}
 use lib.ListN.{length, length-append}
-use Prim.Native.Nat.{_+_, _-_, _*_, _≤_}
+use Prim.Native.Nat.{_+_, _-_, _≤_}
 use lib.Seq.{sets}
 use Rattle.values.proofs.Laws.{sets-append}
 use Rattle.book.proofs.Places.{fields-length, text-length}
 use Rattle.print.proofs.Laws.{lines-first, lines-none, line-length}
 use Rattle.print.proofs.put_records.Statement.{statement}
 use Rattle.print.proofs.put_records.Tie as tie
-use Rattle.print.proofs.put_records.Reads as reads
-use Rattle.print.proofs.put_records.Lts as lts
-use Rattle.book.proofs.Cursor.first.Reads as first-reads
-use Rattle.book.proofs.Cursor.next.Reads as next-reads
-use Rattle.print.proofs.put_record.Reads as put-record-reads
 
 abbrev Inv-loop : tie.InvT-loop
 Inv-loop m₀ to book at₀ cursor₀ m at cursor =
@@ -28,47 +24,36 @@ Inv-loop m₀ to book at₀ cursor₀ m at cursor =
 abbrev μ-loop : tie.MeasureT-loop
 μ-loop m₀ to book at₀ cursor₀ m at cursor = length book - cursor .at
 
--- src/lib.rt:156:9
 first-requires : tie.Need-first-requires Inv-loop μ-loop
 first-requires c κs = search needs
 
--- src/lib.rt:157:5
 loop-holds : tie.Need-loop-holds Inv-loop μ-loop
 loop-holds c = let (e, q) = c .before .before .before .pre .0 in rw (c .first .ensures .0, c .first .ensures .1) (refl, start _ e q _ (refl, c .before .before .before .pre .1))
 
--- src/lib.rt:158:15
 next-requires : tie.Need-next-requires Inv-loop μ-loop
 next-requires c κs = search needs
 
--- src/lib.rt:160:17
 enum-told : tie.Need-enum-told Inv-loop μ-loop
 enum-told c = search needs
 
--- src/lib.rt:160:17
 same-length : tie.Need-same-length Inv-loop μ-loop
 same-length c = c .before .before .before .loop .inv .0
 
--- src/lib.rt:160:17
 returns : tie.Need-returns Inv-loop μ-loop
 returns c = absurd (never _ _ _ _ (c .before .before .before .loop .inv .1) (sym (c .enum-told .given .1) ∙ c .before .before .next .ensures))
 
--- src/lib.rt:163:17
 enum-told-2 : tie.Need-enum-told-2 Inv-loop μ-loop
 enum-told-2 c = search needs
 
--- src/lib.rt:163:17
 same-length-2 : tie.Need-same-length-2 Inv-loop μ-loop
 same-length-2 c = c .before .before .before .loop .inv .0
 
--- src/lib.rt:163:17
 returns-2 : tie.Need-returns-2 Inv-loop μ-loop
 returns-2 c = let l = c .before .before .before .loop in let (e, fits) = ended _ _ _ _ (l .inv .1) (sym (c .enum-told2 .given .1) ∙ c .before .before .next .ensures) in sym (e ∙ ap (λ vs. sets (l .m) (l .at) vs) lines-none)
 
--- src/lib.rt:165:26
 enum-known-p : tie.Need-enum-known-p Inv-loop μ-loop
 enum-known-p c = search needs
 
---<H
 -- the record that the reader gave
 read : (c : tie.After-p Inv-loop μ-loop) → Step.Record (c .p .given .0 .0) (c .p .given .0 .1 .0) ≡ stepAt (c .before .before .before .before .before .before .before .args .book .now) (c .before .before .before .loop .cursor .at) (c .before .before .before .loop .cursor .card)
 read c = sym (c .p .given .1) ∙ c .before .before .next .ensures
@@ -90,17 +75,12 @@ fits c =
     let same = l .inv .0 in
     omega arith
 
---H>
-
--- src/lib.rt:166:17
 put-record-requires : tie.Need-put-record-requires Inv-loop μ-loop
 put-record-requires c κs = (gave _ _ _ _ _ (read (c .before .before)) .sound, fits (c .before .before))
 
--- src/lib.rt:157:5
 loop-less : tie.Need-loop-less Inv-loop μ-loop
 loop-less c = let g = gave _ _ _ _ _ (read (c .before .before .before .before .before)) in omega (arith, g .on, g .within)
 
--- src/lib.rt:157:5
 loop-again : tie.Need-loop-again Inv-loop μ-loop
 loop-again c =
     let a = c .before .before .before .before .before .before .before .before .before .before .before .before .args in let l = c .before .before .before .before .before .before .before .before .loop in let w = c .before .before .put-record in let p = c .before .before .before .before .before .p .given .0 .0 in let r = recordOf (a .book .now) p in

@@ -1,41 +1,31 @@
+-- `put_text` meets its contract. The text as a column.
 use borrow.Author.Needs.{needs}
 use native.Mathlib.Omega.{arith}
-use mathlib.Core.Path.{_≡_, refl, sym, ap, _∙_}
-use Prim.Native.Nat.{_+_}
+use mathlib.Core.Path.{ap, _∙_}
 use lib.Seq.{sets}
 use Rattle.values.proofs.Laws.{part-between, between-length}
 use Rattle.print.specs.Print.{column}
 use Rattle.print.proofs.put_text.Statement.{statement}
 use Rattle.print.proofs.put_text.Tie as tie
-use Rattle.print.proofs.put_text.Reads as reads
-use Rattle.print.proofs.put_text.Lts as lts
-use Rattle.print.proofs.put_column.Reads as put-column-reads
 
--- src/lib.rt:116:15
 add-end : tie.Need-add-end
 add-end c = search needs
 
--- src/lib.rt:117:23
 sub-put-column : tie.Need-sub-put-column
 sub-put-column c = search needs
 
--- src/lib.rt:117:23
 part-put-column-start : tie.Need-part-put-column-start
 part-put-column-start c = search needs
 
--- src/lib.rt:117:23
 part-put-column-end : tie.Need-part-put-column-end
 part-put-column-end c = search needs
 
--- src/lib.rt:117:5
 put-column-requires : tie.Need-put-column-requires
 put-column-requires c κs = let a = c .before .before .before .before .before .args in rw (between-length (a .book .now) (a .p .text) (a .p .size) (c .before .before .before .before .before .pre .0 .text)) (c .before .before .before .before .before .pre .1)
 
--- src/lib.rt:110:1
 same-length : tie.Need-same-length
 same-length c = search needs
 
--- src/lib.rt:110:1
 returns : tie.Need-returns
 returns c = let a = c .before .before .before .before .before .before .before .before .args in let r = c .before .before .put-column in
     let l = between-length (a .book .now) (a .p .text) (a .p .size) (c .before .before .before .before .before .before .before .before .pre .0 .text) in

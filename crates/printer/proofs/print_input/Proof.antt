@@ -1,31 +1,24 @@
+-- `print_input` meets its contract. What the printer writes is never longer than the buffer for it.
 use borrow.Author.Needs.{needs}
 use native.Mathlib.Omega.{arith}
-use mathlib.Core.Path.{_≡_, refl, sym, ap, _∙_}
+use mathlib.Core.Path.{_≡_, sym}
 use lib.Seq.{length-take-le}
 use Prim.Native.Nat.{_≤_}
-use lib.ListN.{length, take, replicate, length-replicate}
+use lib.ListN.{length, take}
 use Rattle.print.specs.Print.{printed}
 use Rattle.print.proofs.Short.{printed-short}
 use Rattle.printer.proofs.print_input.Statement.{statement}
 use Rattle.printer.proofs.print_input.Tie as tie
-use Rattle.printer.proofs.print_input.Reads as reads
-use Rattle.printer.proofs.print_input.Lts as lts
-use Rattle.io.proofs.write_all.Reads as write-all-reads
-use Rattle.print.proofs.print_book.Reads as print-book-reads
 
--- src/main.rt:51:36
 slice-aggregate-print-book : tie.Need-slice-aggregate-print-book
 slice-aggregate-print-book c = sym (length-take-le _ (c .before .before .args .input .now) (omega arith))
 
--- src/main.rt:51:52
 slice-aggregate-print-book-2 : tie.Need-slice-aggregate-print-book-2
 slice-aggregate-print-book-2 c = search needs
 
--- src/main.rt:51:9
 print-book-requires : tie.Need-print-book-requires
 print-book-requires c κs = search needs
 
---<H
 short : (c : tie.After-print-book) → c .print-book .result ≤ length (c .print-book .last .1 .0)
 short c =
     let s = take (c .before .before .before .before .args .have) (c .before .before .before .before .args .input .now) in
@@ -33,33 +26,25 @@ short c =
     let e : c .print-book .result ≡ length (printed s) = c .print-book .ensures .0 in
     let k : length (c .print-book .last .1 .0) ≡ 196608 = c .print-book .kept .1 .0 in
     omega arith
---H>
 
--- src/main.rt:52:38
 array-share-prefix-out : tie.Need-array-share-prefix-out
 array-share-prefix-out c = short (c .before)
 
--- src/main.rt:52:38
 slice-aggregate-write-all : tie.Need-slice-aggregate-write-all
 slice-aggregate-write-all c = sym (length-take-le _ (c .before .before .print-book .last .1 .0) (short (c .before .before)))
 
--- src/main.rt:52:9
 write-all-requires : tie.Need-write-all-requires
 write-all-requires c κs = search needs
 
--- src/main.rt:55:13
 slice-aggregate-write-all-2 : tie.Need-slice-aggregate-write-all-2
 slice-aggregate-write-all-2 c = search needs
 
--- src/main.rt:53:9
 write-all-requires-2 : tie.Need-write-all-requires-2
 write-all-requires-2 c κs = search needs
 
--- src/main.rt:47:1
 returns : tie.Need-returns
 returns c = search needs
 
--- src/main.rt:47:1
 returns-2 : tie.Need-returns-2
 returns-2 c = search needs
 

@@ -1,15 +1,13 @@
+-- `read_input` meets its contract. The invariant: what was read lies inside the buffer.
 use borrow.Author.Needs.{needs}
 use native.Mathlib.Omega.{arith}
-use mathlib.Core.Path.{_≡_, refl, sym, ap, _∙_}
+use mathlib.Core.Path.{_≡_, refl, ap, _∙_}
 use Prim.Native.Nat.{_+_, _-_, _≤_}
 use lib.ListN.{length, take, drop, length-take, length-drop}
 use borrow.Rule.Slice.PartMut.{putMid, same-len-mid}
 use Rattle.printer.specs.Input.{readOf}
 use Rattle.printer.proofs.read_input.Statement.{statement}
 use Rattle.printer.proofs.read_input.Tie as tie
-use Rattle.printer.proofs.read_input.Reads as reads
-use Rattle.printer.proofs.read_input.Lts as lts
-use Rattle.printer.proofs.read_piece.Reads as read-piece-reads
 
 abbrev Inv-loop : tie.InvT-loop
 Inv-loop buffer₀ have₀ buffer have = (have ≤ length buffer) × (length buffer ≡ length buffer₀)
@@ -17,56 +15,42 @@ Inv-loop buffer₀ have₀ buffer have = (have ≤ length buffer) × (length buf
 abbrev μ-loop : tie.MeasureT-loop
 μ-loop buffer₀ have₀ buffer have = length buffer₀ - have
 
--- src/main.rt:30:5
 loop-holds : tie.Need-loop-holds Inv-loop μ-loop
 loop-holds c = (omega arith, refl)
 
--- src/main.rt:31:26
 sub-read-piece : tie.Need-sub-read-piece Inv-loop μ-loop
 sub-read-piece c = omega arith
 
--- src/main.rt:31:26
 part-read-piece-start : tie.Need-part-read-piece-start Inv-loop μ-loop
 part-read-piece-start c = search needs
 
--- src/main.rt:31:26
 part-read-piece-end : tie.Need-part-read-piece-end Inv-loop μ-loop
 part-read-piece-end c = search needs
 
--- src/main.rt:31:15
 read-piece-requires : tie.Need-read-piece-requires Inv-loop μ-loop
 read-piece-requires c κs = search needs
 
--- src/main.rt:33:17
 enum-told : tie.Need-enum-told Inv-loop μ-loop
 enum-told c = search needs
 
---<H
 same : (c : tie.After-read-piece Inv-loop μ-loop) → length (putMid (c .before .before .before .loop .have) (length (c .before .before .before .loop .buffer) - c .before .before .before .loop .have) (c .before .before .before .loop .buffer) (c .read-piece .last .0)) ≡ length (c .before .before .before .loop .buffer)
 same c = let l = c .before .before .before .loop in same-len-mid (l .have) (length (l .buffer) - l .have) (l .buffer) (c .read-piece .last .0) (c .read-piece .kept .0)
---H>
 
--- src/main.rt:33:17
 same-length : tie.Need-same-length Inv-loop μ-loop
 same-length c = same (c .before .before .before .before) ∙ c .before .before .before .before .before .before .before .loop .inv .1
 
--- src/main.rt:33:17
 returns : tie.Need-returns Inv-loop μ-loop
 returns c = omega arith
 
--- src/main.rt:35:25
 enum-known-more : tie.Need-enum-known-more Inv-loop μ-loop
 enum-known-more c = search needs
 
--- src/main.rt:37:21
 same-length-2 : tie.Need-same-length-2 Inv-loop μ-loop
 same-length-2 c = same (c .before .before .before .before .before .before) ∙ c .before .before .before .before .before .before .before .before .before .loop .inv .1
 
--- src/main.rt:37:21
 returns-2 : tie.Need-returns-2 Inv-loop μ-loop
 returns-2 c = let n = same (c .before .before .before .before .before .before) in let l = c .before .before .before .before .before .before .before .before .before .loop .inv .0 in omega (arith, n, l)
 
---<H
 -- what was read lies behind what was there
 fits : (c : tie.After-more Inv-loop μ-loop) → c .before .before .before .before .before .before .before .loop .have + c .more .given .0 .0 ≤ length (c .before .before .before .before .before .before .before .loop .buffer)
 fits c =
@@ -77,25 +61,19 @@ fits c =
     let is = ap readOf (c .more .given .1) in
     let low = l .inv .0 in
     omega arith
---H>
 
--- src/main.rt:39:17
 add-have : tie.Need-add-have Inv-loop μ-loop
 add-have c = omega (arith, fits (c .before .before))
 
--- src/main.rt:30:5
 loop-less : tie.Need-loop-less Inv-loop μ-loop
 loop-less c = let l = c .before .before .before .before .before .before .before .before .before .loop .inv in omega (arith, fits (c .before .before), l .0, l .1)
 
--- src/main.rt:30:5
 loop-again : tie.Need-loop-again Inv-loop μ-loop
 loop-again c = let l = c .before .before .before .before .before .before .before .before .before .loop .inv in let n = same (c .before .before .before .before .before .before) in let f = fits (c .before .before) in (omega arith, n ∙ l .1)
 
--- src/main.rt:26:1
 same-length-3 : tie.Need-same-length-3 Inv-loop μ-loop
 same-length-3 c = c .before .loop .inv .1
 
--- src/main.rt:26:1
 returns-3 : tie.Need-returns-3 Inv-loop μ-loop
 returns-3 c = c .before .loop .inv .0
 

@@ -1,157 +1,115 @@
+-- `Cursor::next` meets its contract. Each answer by the test that led to it; the record from the numbers read.
 use native.Mathlib.Omega.{arith}
-use Prim.Native.Nat.{ℕ, _+_, _-_}
-use mathlib.Core.Path.{_≡_, sym, ap, _∙_}
+use Prim.Native.Nat.{_+_, _-_}
+use mathlib.Core.Path.{_≡_, sym, _∙_}
 use borrow.Author.Tests.{not-true, not-false}
 use Rattle.values.specs.Words.{part}
 use mathlib.Core.Bool.{true}
-use Rattle.book.specs.Book.{fieldsFit, restAt, cardAt, addressAt, countAt, sizeAt, recordAt, recordOk}
-use Rattle.book.proofs.Laws.{step-end, step-broken, step-found, no-head, no-rest, no-text, too-long, no-rise, no-card, too-high, no-fields, all-passed, fields-lent, is-whole, text-length}
-use lib.ListN.{take, drop}
+use Rattle.book.specs.Book.{fieldsFit, restAt, countAt, sizeAt, recordOk}
+use Rattle.book.proofs.Laws.{step-end, step-broken, step-found, no-head, no-rest, no-text, too-long, no-rise, no-card, too-high, no-fields, all-passed, fields-lent}
 use borrow.Author.Needs.{needs}
 use Rattle.book.proofs.Cursor.next.Statement.{statement}
 use Rattle.book.proofs.Cursor.next.Tie as tie
-use Rattle.book.proofs.Cursor.next.Reads as reads
-use Rattle.book.proofs.Cursor.next.Lts as lts
-use Rattle.book.proofs.fields_fit.Reads as fields-fit-reads
-use Rattle.values.proofs.words.wide.Reads as wide-reads
-use Rattle.values.proofs.words.wide16.Reads as wide16-reads
-use Rattle.values.proofs.words.word_at.Reads as word-at-reads
 
---<H
 rest : (c : tie.After-wide16) → c .wide16 .result ≡ restAt (c .before .before .before .before .before .before .args .book .now) (c .before .before .before .before .before .before .args .self .at)
 rest c = c .wide16 .ensures .0 ∙ c .before .word-at .ensures
 
---H>
-
--- src/lib.rt:83:13
 returns : tie.Need-returns
 returns c = step-end _ _ _ (omega arith)
 
--- src/lib.rt:86:13
 returns-2 : tie.Need-returns-2
 returns-2 c = step-broken _ _ _ (omega arith) (no-head _ _ _ (omega arith))
 
--- src/lib.rt:88:25
 add-if3 : tie.Need-add-if3
 add-if3 c = search needs
 
--- src/lib.rt:89:13
 returns-3 : tie.Need-returns-3
 returns-3 c = step-broken _ _ _ (omega arith) (no-head _ _ _ (omega arith))
 
--- src/lib.rt:91:27
 word-at-requires : tie.Need-word-at-requires
 word-at-requires c κs = search needs
 
--- src/lib.rt:91:13
 wide16-requires : tie.Need-wide16-requires
 wide16-requires c κs = search needs
 
--- src/lib.rt:92:22
 add-behind : tie.Need-add-behind
 add-behind c = search needs
 
--- src/lib.rt:92:22
 add-behind-2 : tie.Need-add-behind-2
 add-behind-2 c = search needs
 
--- src/lib.rt:94:13
 returns-4 : tie.Need-returns-4
 returns-4 c = step-broken _ _ _ (omega arith) (no-rest _ _ _ (omega arith))
 
--- src/lib.rt:96:31
 add-wide : tie.Need-add-wide
 add-wide c = search needs
 
--- src/lib.rt:96:26
 shared-slice-read-wide : tie.Need-shared-slice-read-wide
 shared-slice-read-wide c = search needs
 
--- src/lib.rt:96:13
 wide-requires : tie.Need-wide-requires
 wide-requires c κs = search needs
 
--- src/lib.rt:97:19
 add-if5 : tie.Need-add-if5
 add-if5 c = search needs
 
--- src/lib.rt:98:13
 returns-5 : tie.Need-returns-5
 returns-5 c = step-broken _ _ _ (omega arith) (no-text _ _ _ (omega arith))
 
--- src/lib.rt:100:28
 add-size : tie.Need-add-size
 add-size c = search needs
 
--- src/lib.rt:100:20
 sub-size : tie.Need-sub-size
 sub-size c = search needs
 
--- src/lib.rt:102:13
 returns-6 : tie.Need-returns-6
 returns-6 c = step-broken _ _ _ (omega arith) (too-long _ _ _ (omega arith))
 
--- src/lib.rt:104:34
 add-word-at : tie.Need-add-word-at
 add-word-at c = search needs
 
--- src/lib.rt:104:13
 word-at-requires-2 : tie.Need-word-at-requires-2
 word-at-requires-2 c κs = search needs
 
--- src/lib.rt:106:13
 returns-7 : tie.Need-returns-7
 returns-7 c = step-broken _ _ _ (omega arith) (no-rise _ _ _ (omega arith))
 
--- src/lib.rt:109:13
 returns-8 : tie.Need-returns-8
 returns-8 c = step-broken _ _ _ (omega arith) (no-card _ _ _ (omega arith))
 
--- src/lib.rt:111:37
 add-word-at-2 : tie.Need-add-word-at-2
 add-word-at-2 c = search needs
 
--- src/lib.rt:111:13
 word-at-requires-3 : tie.Need-word-at-requires-3
 word-at-requires-3 c κs = search needs
 
--- src/lib.rt:112:20
 wide16-requires-2 : tie.Need-wide16-requires-2
 wide16-requires-2 c κs = search needs
 
--- src/lib.rt:112:20
 add-if9 : tie.Need-add-if9
 add-if9 c = search needs
 
--- src/lib.rt:113:13
 returns-9 : tie.Need-returns-9
 returns-9 c = step-broken _ _ _ (omega arith) (too-high _ _ _ (omega arith))
 
--- src/lib.rt:115:22
 add-fields : tie.Need-add-fields
 add-fields c = search needs
 
--- src/lib.rt:116:20
 add-text : tie.Need-add-text
 add-text c = search needs
 
--- src/lib.rt:117:24
 sub-fields-fit : tie.Need-sub-fields-fit
 sub-fields-fit c = search needs
 
--- src/lib.rt:117:24
 part-fields-fit-start : tie.Need-part-fields-fit-start
 part-fields-fit-start c = search needs
 
--- src/lib.rt:117:24
 part-fields-fit-end : tie.Need-part-fields-fit-end
 part-fields-fit-end c = search needs
 
--- src/lib.rt:117:13
 fields-fit-requires : tie.Need-fields-fit-requires
 fields-fit-requires c κs = search needs
 
---<H
 -- the size and the offsets are those of the record
 fit : (c : tie.After-fields-fit) → c .fields-fit .result ≡ fieldsFit 0 (sizeAt (c .before .before .before .before .before .before .before .before .before .before .before .before .before .before .before .before .before .before .before .args .book .now) (c .before .before .before .before .before .before .before .before .before .before .before .before .before .before .before .before .before .before .before .args .self .at)) (part (c .before .before .before .before .before .before .before .before .before .before .before .before .before .before .before .before .before .before .before .args .book .now) (c .before .before .before .before .before .before .before .before .before .before .before .before .before .before .before .before .before .before .before .args .self .at + 7) (countAt (c .before .before .before .before .before .before .before .before .before .before .before .before .before .before .before .before .before .before .before .args .book .now) (c .before .before .before .before .before .before .before .before .before .before .before .before .before .before .before .before .before .before .before .args .self .at)))
 fit c = c .fields-fit .ensures ∙ fields-lent (c .before .before .before .before .before .before .before .before .before .before .before .before .before .before .before .before .before .before .before .args .book .now) (c .before .before .before .before .before .before .before .before .before .before .before .before .before .before .before .before .before .before .before .args .self .at) (c .before .before .before .before .before .before .before .before .before .before .before .before .before .before .before .before .before .before .before .args .self .card) _ _ (rest (c .before .before .before .before .before .before .before .before .before .before .before .before .before)) (c .before .before .before .before .before .before .before .before .before .before .wide .ensures .0)
@@ -159,13 +117,9 @@ fit c = c .fields-fit .ensures ∙ fields-lent (c .before .before .before .befor
 whole : (c : tie.Else10) → recordOk (c .before .before .before .before .before .before .before .before .before .before .before .before .before .before .before .before .before .before .before .before .args .book .now) (c .before .before .before .before .before .before .before .before .before .before .before .before .before .before .before .before .before .before .before .before .args .self .at) (c .before .before .before .before .before .before .before .before .before .before .before .before .before .before .before .before .before .before .before .before .args .self .card) ≡ true
 whole c = all-passed _ _ _ (omega arith) (omega arith) (omega arith) (omega arith) (omega arith) (omega arith) (sym (fit (c .before)) ∙ not-false _ (c .if10 .left))
 
---H>
-
--- src/lib.rt:118:13
 returns-10 : tie.Need-returns-10
 returns-10 c = step-broken _ _ _ (omega arith) (no-fields _ _ _ (sym (fit (c .before)) ∙ not-true _ (c .if10 .taken)))
 
--- src/lib.rt:77:5
 returns-11 : tie.Need-returns-11
 returns-11 c =
     let a = c .before .before .before .before .before .before .before .before .before .before .before .before .before .before .before .before .before .before .before .before .args in
