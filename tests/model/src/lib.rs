@@ -1,9 +1,24 @@
 //! The rules, written plainly and apart from the proved library, so that the two can be
-//! held against each other: what a book is, what loading does, what the printer prints.
+//! held against each other: what cards assemble to, what a book is, what loading does, what
+//! the printer prints.
 
+pub mod assemble;
 pub mod book;
+pub mod cards;
+mod data;
+mod expressions;
+mod letters;
 pub mod load;
+mod names;
+mod operands;
+pub mod operations;
+mod pass_one;
+mod pass_two;
 pub mod print;
+mod reader;
+mod statements;
+mod terms;
+mod text;
 
 /// A refusal: its number, and the card it gives, 0 where it gives none.
 #[derive(Debug, Clone, Copy, PartialEq, Eq)]
