@@ -25,6 +25,46 @@ extern "C" {
 /* The numbers of refusal, and the card that each gives. */
 enum mersclund_refused {
     MERSCLUND_ACCEPTED = 0,
+    /* The width is not 80 or 96, or the source is not whole cards. Card 0. */
+    MERSCLUND_REFUSED_WIDTH = 1,
+    /* Over 4,000 cards. Card 0. */
+    MERSCLUND_REFUSED_CARDS = 2,
+    /* The work area is under 8,192 bytes. Card 0. */
+    MERSCLUND_REFUSED_WORK = 3,
+    /* A card after END: that card. No END: card 0. */
+    MERSCLUND_REFUSED_END = 9,
+    /* A byte that is not accepted. This and all up to 24 give the card they hold on. */
+    MERSCLUND_REFUSED_BYTE = 10,
+    /* A bad name. */
+    MERSCLUND_REFUSED_NAME = 11,
+    /* The operation is absent or unknown. */
+    MERSCLUND_REFUSED_OPERATION = 12,
+    /* START is missing first, or there again. */
+    MERSCLUND_REFUSED_START = 13,
+    /* A name is needed or forbidden. */
+    MERSCLUND_REFUSED_NAMING = 14,
+    /* The operand is not of its form. */
+    MERSCLUND_REFUSED_FORM = 15,
+    /* The name is already defined. */
+    MERSCLUND_REFUSED_AGAIN = 16,
+    /* The 513th name. */
+    MERSCLUND_REFUSED_NAMES = 17,
+    /* A name that is not defined; on EQU and ORG, not on an earlier card. */
+    MERSCLUND_REFUSED_UNDEFINED = 18,
+    /* A value of the wrong kind, absolute or relocatable. */
+    MERSCLUND_REFUSED_KIND = 19,
+    /* A value out of range. */
+    MERSCLUND_REFUSED_VALUE = 20,
+    /* A length, a count of copies or a Q code out of range. */
+    MERSCLUND_REFUSED_LENGTH = 21,
+    /* A register that is not 1 or 2, or has no fitting base. */
+    MERSCLUND_REFUSED_REGISTER = 22,
+    /* A displacement or a jump out of reach. */
+    MERSCLUND_REFUSED_REACH = 23,
+    /* The counter is past 65536. */
+    MERSCLUND_REFUSED_COUNTER = 24,
+    /* The book is longer than the output. Card 0. */
+    MERSCLUND_REFUSED_OUTPUT = 30,
     /* The book breaks its layout. Card 0. */
     MERSCLUND_REFUSED_LAYOUT = 50,
     /* Text outside storage. The card of the first such record. */
@@ -57,6 +97,22 @@ static inline uint16_t mersclund_card(uint64_t answer)
 }
 
 /*
+ * Of an accepted assembly. Bits 55..48 are 0.
+ */
+
+/* The book's length in bytes: bits 31..0. */
+static inline uint32_t mersclund_length(uint64_t answer)
+{
+    return (uint32_t)(answer & 0xFFFFFFFF);
+}
+
+/* The count of names: bits 47..32. */
+static inline uint16_t mersclund_names(uint64_t answer)
+{
+    return (uint16_t)(answer >> 32 & 0xFFFF);
+}
+
+/*
  * Of an accepted load. Bits 55..49 are 0, and so are bits 47..32 where there is no entry.
  */
 
@@ -77,6 +133,25 @@ static inline uint16_t mersclund_entry(uint64_t answer)
 {
     return (uint16_t)(answer >> 32 & 0xFFFF);
 }
+
+/*
+ * Assembles cards into a book.
+ *
+ * width                   80 or 96, the bytes of a card.
+ * source, source_len      the cards, in ASCII, without line ends. Never changed.
+ * work, work_len          a work area of 8,192 bytes or more. What it holds before does not
+ *                         matter. After every answer but 1, 2 and 3 its first 8,192 bytes are
+ *                         zero; after those it is as before. Bytes behind them never change.
+ * out, out_len            where the book goes. A book is 8 bytes or longer.
+ *
+ * Accepted: the book is in the first bytes of the output; those behind it are as before.
+ *
+ * Refused: 1, 2, 3, 9 to 24 or 30. Every byte of the output is as before.
+ */
+uint64_t mersclund_assemble(uint32_t width,
+                            const uint8_t *source, size_t source_len,
+                            uint8_t *work, size_t work_len,
+                            uint8_t *out, size_t out_len);
 
 /*
  * Loads a book into storage.

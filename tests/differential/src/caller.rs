@@ -1,4 +1,4 @@
-//! Calls the library through `tests/c/load_caller.c`. That is a program of its own, since the
+//! Calls the library through `tests/c/caller.c`. That is a program of its own, since the
 //! library is for x86-64 and this program is for whatever machine it runs on.
 
 use std::io::{self, Read, Write};
@@ -21,6 +21,13 @@ impl Program {
     }
 }
 
+/// The calls, by the numbers that the program knows them by.
+#[derive(Clone, Copy)]
+pub enum Call {
+    Load = 1,
+    Assemble = 2,
+}
+
 /// The running program that makes the calls.
 pub struct Caller {
     child: Child,
@@ -38,15 +45,16 @@ impl Caller {
         Ok(Caller { child, input, output })
     }
 
-    /// Calls `mersclund_load`, and gives the answer and all lent bytes with their guards.
-    pub fn load(
+    /// Makes the call, and gives the answer and all lent bytes with their guards.
+    pub fn call(
         &mut self,
-        book: &[u8],
-        displacement: u16,
-        storage: &[u8],
+        call: Call,
+        argument: u32,
+        buffers: [&[u8]; 3],
     ) -> io::Result<(u64, Vec<u8>)> {
-        let mut bytes = lent(book, storage);
-        let head = [book.len() as u32, storage.len() as u32, u32::from(displacement)];
+        let mut bytes = lent(buffers);
+        let [first, second, third] = buffers.map(|buffer| buffer.len() as u32);
+        let head = [call as u32, argument, first, second, third];
         self.input.write_all(&head.map(u32::to_be_bytes).concat())?;
         self.input.write_all(&bytes)?;
         self.input.flush()?;
@@ -64,21 +72,38 @@ impl Caller {
     }
 }
 
-const GUARD: usize = 64;
+pub const GUARD: usize = 64;
 
-/// Guard bytes, the book, guard bytes, storage, guard bytes.
-pub fn lent(book: &[u8], storage: &[u8]) -> Vec<u8> {
+/// Guard bytes and a buffer, three times, and guard bytes again.
+pub fn lent(buffers: [&[u8]; 3]) -> Vec<u8> {
     let guard: [u8; GUARD] = std::array::from_fn(|place| (place * 7) as u8 ^ 0xA5);
-    [&guard, book, &guard, storage, &guard].concat()
+    let mut bytes = guard.to_vec();
+    for buffer in buffers {
+        bytes.extend(buffer);
+        bytes.extend(guard);
+    }
+    bytes
 }
 
-/// Names the byte at this place of the lent bytes.
-pub fn name_of(place: usize, book: usize) -> String {
-    let storage = GUARD + book + GUARD;
-    match place {
-        _ if place < GUARD => "a guard byte before the book".to_string(),
-        _ if place < GUARD + book => format!("byte {} of the book", place - GUARD),
-        _ if place < storage => "a guard byte behind the book".to_string(),
-        _ => format!("byte {} of storage or its guard", place - storage),
+/// Names the first byte in which the lent bytes of these buffers are not as wanted.
+pub fn wrong_byte(got: &[u8], wanted: [&[u8]; 3], names: [&'static str; 3]) -> Option<String> {
+    let all = lent(wanted);
+    let place = (0..all.len()).find(|&place| got.get(place) != Some(&all[place]))?;
+    let mut start = GUARD;
+    for (name, buffer) in names.into_iter().zip(wanted) {
+        if place < start {
+            return Some(format!("a guard byte before the {name}"));
+        }
+        if place < start + buffer.len() {
+            return Some(format!("byte {} of the {name}", place - start));
+        }
+        start += buffer.len() + GUARD;
     }
+    Some("a guard byte behind all buffers".to_string())
+}
+
+/// One of the lent buffers.
+pub fn buffer(lent: &[u8], lengths: [usize; 3], which: usize) -> &[u8] {
+    let before: usize = lengths[..which].iter().map(|length| length + GUARD).sum();
+    &lent[GUARD + before..][..lengths[which]]
 }

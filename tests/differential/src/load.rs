@@ -1,6 +1,6 @@
 //! Compares `mersclund_load` with the model.
 
-use crate::caller::{lent, name_of, Caller, Program};
+use crate::caller::{wrong_byte, Call, Caller, Program};
 use crate::cases::{hex, made, Made};
 use crate::damage::DAMAGES;
 use crate::random::Random;
@@ -40,7 +40,8 @@ pub fn run(program: &Program, seed: u64, count: u64) -> io::Result<bool> {
         let mut wanted = before.to_vec();
         let answer = load(&made.book, made.displacement, &mut wanted);
         meet(&mut tally, &made, answer);
-        let got = caller.load(&made.book, made.displacement, before);
+        let buffers = [&made.book[..], before, &[]];
+        let got = caller.call(Call::Load, u32::from(made.displacement), buffers);
         let ended = got.is_err();
         let difference = difference(&made, answer, &wanted, got);
         tally.compare(difference.map(|what| described(seed, number, &made, &what)));
@@ -74,10 +75,10 @@ fn difference(
         Err(error) => return Some(format!("{model}, the caller failed: {error}")),
         Ok(got) => got,
     };
-    let wanted = lent(&made.book, wanted);
     let answers = format!("{model}, library {got:016X}");
-    match (0..wanted.len()).find(|&place| bytes[place] != wanted[place]) {
-        Some(place) => Some(format!("{answers}, wrong: {}", name_of(place, made.book.len()))),
+    let buffers = [&made.book[..], wanted, &[]];
+    match wrong_byte(&bytes, buffers, ["book", "storage", "end"]) {
+        Some(place) => Some(format!("{answers}, wrong: {place}")),
         None => (got != packed(answer)).then_some(answers),
     }
 }

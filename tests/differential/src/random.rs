@@ -5,7 +5,7 @@ use std::ops::RangeInclusive;
 pub struct Random(u64);
 
 impl Random {
-    /// The numbers for one book: they depend on the seed and the book's number alone.
+    /// The numbers for one case: they depend on the seed and the case's number alone.
     pub fn of(seed: u64, number: u64) -> Random {
         let mixed = Random(seed).next() ^ number;
         Random(Random(mixed).next())
@@ -27,6 +27,16 @@ impl Random {
         range.start() + self.below(range.end() - range.start() + 1)
     }
 
+    /// A number of the range, its ends more often than the others.
+    pub fn near(&mut self, range: RangeInclusive<usize>) -> usize {
+        let (low, high) = (*range.start(), *range.end());
+        match self.below(6) {
+            0 => low,
+            1 => high,
+            _ => self.within(range),
+        }
+    }
+
     /// Says yes once in so many times.
     pub fn one_in(&mut self, times: usize) -> bool {
         self.below(times) == 0
@@ -34,6 +44,18 @@ impl Random {
 
     pub fn pick<T: Copy>(&mut self, from: &[T]) -> T {
         from[self.below(from.len())]
+    }
+
+    /// One of the things, each as often as the number beside it says.
+    pub fn weighted<T: Copy>(&mut self, from: &[(usize, T)]) -> T {
+        let mut left = self.below(from.iter().map(|(weight, _)| weight).sum());
+        for &(weight, thing) in from {
+            match left.checked_sub(weight) {
+                Some(less) => left = less,
+                None => return thing,
+            }
+        }
+        unreachable!("the number is below the sum of all")
     }
 
     pub fn byte(&mut self) -> u8 {

@@ -5,6 +5,7 @@ use std::collections::BTreeMap;
 #[derive(Default)]
 pub struct Tally {
     met: BTreeMap<String, u64>,
+    groups: BTreeMap<&'static str, BTreeMap<String, u64>>,
     agree: u64,
     differ: u64,
 }
@@ -21,6 +22,19 @@ impl Tally {
 
     pub fn meet(&mut self, kind: &str) {
         *self.met.get_mut(kind).unwrap_or_else(|| panic!("no kind {kind}")) += 1;
+    }
+
+    /// Adds a group of kinds that must all be met; only a summary of it is printed.
+    pub fn group(&mut self, group: &'static str, kinds: impl IntoIterator<Item = String>) {
+        self.groups.insert(group, kinds.into_iter().map(|kind| (kind, 0)).collect());
+    }
+
+    /// Counts a kind of a group, if it is one that must be met.
+    pub fn meet_in(&mut self, group: &'static str, kind: &str) {
+        let kinds = self.groups.get_mut(group).unwrap_or_else(|| panic!("no group {group}"));
+        if let Some(count) = kinds.get_mut(kind) {
+            *count += 1;
+        }
     }
 
     /// Counts a comparison, and prints the difference if there is one.
@@ -41,7 +55,21 @@ impl Tally {
         for (kind, count) in &self.met {
             println!("{count:8}  {kind}{}", if *count == 0 { ": NEVER MET" } else { "" });
         }
+        for (group, kinds) in &self.groups {
+            let never: Vec<&str> = kinds
+                .iter()
+                .filter(|(_, &count)| count == 0)
+                .map(|(kind, _)| kind.as_str())
+                .collect();
+            let least = kinds.values().min().unwrap_or(&0);
+            let met = kinds.len() - never.len();
+            println!("{group}: {met} of {} met, each at least {least} times", kinds.len());
+            if !never.is_empty() {
+                println!("  NEVER MET: {}", never.join("; "));
+            }
+        }
         println!("differential: {} agree, {} differ", self.agree, self.differ);
-        self.differ == 0 && self.met.values().all(|&count| count > 0)
+        let counts = self.met.values().chain(self.groups.values().flat_map(BTreeMap::values));
+        self.differ == 0 && counts.min().is_none_or(|&least| least > 0)
     }
 }

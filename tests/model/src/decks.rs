@@ -1,6 +1,7 @@
 //! Decks written on one line each, with the answers that they must give.
 
 use crate::assemble::{Assembled, WORK};
+use crate::book::ADDRESSES;
 use crate::load::load;
 use crate::print::print;
 use crate::Refusal;
@@ -49,7 +50,7 @@ pub fn decks(text: &str) -> Result<Vec<Deck>, String> {
 fn deck(line: usize, text: &str) -> Option<Deck> {
     let (lent, text) = text.split_once('{')?;
     let (cards, answer) = text.split_once("} => ")?;
-    let (mut width, mut work, mut out) = (80, WORK, 65_536);
+    let (mut width, mut work, mut out) = (80, WORK, ADDRESSES);
     let mut words = lent.split_whitespace();
     while let Some(word) = words.next() {
         let number = words.next()?.parse().ok()?;
@@ -121,7 +122,7 @@ impl Wanted {
                 if wrong_names || printed.as_ref().is_some_and(|printed| *printed != got) {
                     return Some(format!("wanted {self:?}, got {} names, {got}", assembled.names));
                 }
-                loaded.as_ref().and_then(|loaded| loaded.difference(&assembled.book))
+                loaded.as_ref().and_then(|loaded| loaded.when_loaded(&assembled.book))
             }
             _ => Some(format!("wanted {self:?}, got {answer:?}")),
         }
@@ -129,13 +130,18 @@ impl Wanted {
 }
 
 impl Loaded {
-    fn difference(&self, book: &[u8]) -> Option<String> {
-        let mut storage = vec![0xA5; 65_536];
-        if let Err(refusal) = load(book, self.displacement, &mut storage) {
-            return Some(format!("wanted {self:?}, got {refusal:?}"));
+    /// Says in what storage differs from the wanted bytes once the model has loaded the book.
+    fn when_loaded(&self, book: &[u8]) -> Option<String> {
+        let mut storage = vec![0xA5; ADDRESSES];
+        match load(book, self.displacement, &mut storage) {
+            Err(refusal) => Some(format!("wanted {self:?}, got {refusal:?}")),
+            Ok(_) => self.difference(&storage),
         }
-        let length = self.bytes.len() / 2;
-        let stored = &storage[self.address..self.address + length];
+    }
+
+    /// Says in what storage differs from the wanted bytes.
+    pub fn difference(&self, storage: &[u8]) -> Option<String> {
+        let stored = &storage[self.address..self.address + self.bytes.len() / 2];
         let stored: String = stored.iter().map(|byte| format!("{byte:02X}")).collect();
         (stored != self.bytes).then(|| format!("wanted {self:?}, stored {stored}"))
     }

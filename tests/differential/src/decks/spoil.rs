@@ -1,0 +1,225 @@
+//! Ways to spoil a deck. Most leave all of it right but for one card.
+
+use super::draft::{Card, Draft};
+use super::operands::instruction;
+use super::programs::{name, write};
+use crate::random::Random;
+use model::assemble::{assemble, WORK};
+
+/// Spoils the draft of a deck, which has at least START and END.
+pub type Spoil = fn(&mut Random, &mut Draft);
+
+/// The ways, each with how often it is taken.
+pub const SPOILS: [(usize, (&str, Spoil)); 22] = [
+    (14, ("a wrong operand", wrong_operand)),
+    (16, ("a refusal of pass two", refusal_of_pass_two)),
+    (5, ("a changed character", changed_character)),
+    (3, ("an inserted character", inserted_character)),
+    (3, ("a removed character", removed_character)),
+    (5, ("an operand not of its form", misformed)),
+    (2, ("a bad name", bad_name)),
+    (3, ("another name", another_name)),
+    (3, ("a name put or left out", name_put_or_left_out)),
+    (3, ("a name twice", name_twice)),
+    (1, ("an unknown operation", unknown_operation)),
+    (2, ("another operation", another_operation)),
+    (2, ("an operand of another card", another_operand)),
+    (2, ("a card left out", card_left_out)),
+    (2, ("a card twice", card_twice)),
+    (2, ("cards exchanged", cards_exchanged)),
+    (1, ("another START", another_start)),
+    (1, ("a card behind END", card_behind_end)),
+    (4, ("a high start", high_start)),
+    (1, ("a blank card", blank_card)),
+    (2, ("no END", no_end)),
+    (4, ("a high start and a wrong operand", high_start_and_wrong_operand)),
+];
+
+/// Any card of the deck but a comment, or the last where there is none.
+fn statement<'a>(random: &mut Random, draft: &'a mut Draft) -> &'a mut Card {
+    let at = statement_place(random, draft);
+    &mut draft.cards[at]
+}
+
+fn statement_place(random: &mut Random, draft: &Draft) -> usize {
+    let places: Vec<usize> =
+        (0..draft.cards.len()).filter(|&at| draft.cards[at].comment.is_none()).collect();
+    places[random.below(places.len())]
+}
+
+fn wrong_operand(random: &mut Random, draft: &mut Draft) {
+    let at = statement_place(random, draft);
+    let wild = random.pick(&[1, 2, 2, 3, 4]);
+    write(random, draft, at, wild);
+}
+
+/// Looks for a wrong operand that gives a number of refusal chosen before.
+fn refusal_of_pass_two(random: &mut Random, draft: &mut Draft) {
+    let number = random.pick(&[18, 19, 20, 21, 22, 22, 23, 23, 23]);
+    for _ in 0..20 {
+        let mut spoiled = draft.clone();
+        wrong_operand(random, &mut spoiled);
+        let source = spoiled.punched().concat();
+        let answer = assemble(spoiled.width as u32, &source, WORK, usize::MAX);
+        if answer.is_err_and(|refusal| refusal.number == number) {
+            *draft = spoiled;
+            return;
+        }
+    }
+}
+
+const CHARACTERS: &[u8] = b"'''(((),,,**++--0019AABCDLXZ$ .";
+
+fn character(random: &mut Random) -> char {
+    char::from(random.pick(CHARACTERS))
+}
+
+fn changed_character(random: &mut Random, draft: &mut Draft) {
+    removed_character_at(random, draft, true);
+}
+
+fn removed_character(random: &mut Random, draft: &mut Draft) {
+    removed_character_at(random, draft, false);
+}
+
+fn removed_character_at(random: &mut Random, draft: &mut Draft, replaced: bool) {
+    let replacement = if replaced { character(random).to_string() } else { String::new() };
+    let operand = &mut statement(random, draft).operand;
+    if !operand.is_empty() {
+        let at = random.below(operand.len());
+        operand.replace_range(at..at + 1, &replacement);
+    }
+}
+
+fn inserted_character(random: &mut Random, draft: &mut Draft) {
+    let character = character(random);
+    let operand = &mut statement(random, draft).operand;
+    let at = random.within(0..=operand.len());
+    operand.insert(at, character);
+}
+
+fn misformed(random: &mut Random, draft: &mut Draft) {
+    let card = statement(random, draft);
+    let operand = card.operand.clone();
+    let (head, tail) = operand.split_once(',').unwrap_or((&operand, "1"));
+    card.operand = match random.below(16) {
+        0 => String::new(),
+        1 => format!("{operand},"),
+        2 => format!(",{operand}"),
+        3 => format!("{operand},1"),
+        4 => format!("{operand}(1)"),
+        5 => format!("{operand}()"),
+        6 => format!("{head}(1,1),{tail}"),
+        7 => format!("{head}(1),{tail}(1)"),
+        8 => format!("{head}(,),{tail}"),
+        9 => format!("{head}(1,),{tail}"),
+        10 => format!("-{operand}"),
+        11 => format!("{operand}+"),
+        12 => format!("({operand})"),
+        13 => operand.replace('(', "").replace(')', ""),
+        14 => head.to_string(),
+        _ => random
+            .pick(&["X'10000'", "65536", "000001", "B'2'", "C'ABC'", "C''", "ABCDEFG"])
+            .to_string(),
+    };
+}
+
+fn bad_name(random: &mut Random, draft: &mut Draft) {
+    let bad = ["1", "9A", "A+B", "A.", "ABCDEFG", "'", "-", "A*", "TOOLONGNAME", "_A"];
+    statement(random, draft).name = random.pick(&bad).to_string();
+}
+
+fn another_name(random: &mut Random, draft: &mut Draft) {
+    let name = name(random);
+    let card = statement(random, draft);
+    if !card.name.is_empty() {
+        card.name = name;
+    }
+}
+
+fn name_put_or_left_out(random: &mut Random, draft: &mut Draft) {
+    let name = name(random);
+    let card = statement(random, draft);
+    card.name = if card.name.is_empty() { name } else { String::new() };
+}
+
+fn name_twice(random: &mut Random, draft: &mut Draft) {
+    if !draft.names.is_empty() {
+        let name = draft.names[random.below(draft.names.len())].name.clone();
+        statement(random, draft).name = name;
+    }
+}
+
+fn unknown_operation(random: &mut Random, draft: &mut Draft) {
+    let unknown = [
+        "TITLE", "HPL", "APL", "SIO", "SVC", "EXTRN", "ENTRY", "PRINT", "NOP", "MV", "MVCX", "BX",
+        "JJ", "*", ",", "STARTS", "0", "BNOZX", "'", "",
+    ];
+    let operation = random.pick(&unknown).to_string();
+    let card = statement(random, draft);
+    if operation.is_empty() {
+        card.operand = String::new();
+        card.remark = String::new();
+    }
+    card.operation = operation;
+}
+
+fn another_operation(random: &mut Random, draft: &mut Draft) {
+    let others = ["EQU", "ORG", "DC", "DS", "USING", "DROP", "END", "START"];
+    let operation = if random.one_in(3) { random.pick(&others) } else { instruction(random) };
+    statement(random, draft).operation = operation.to_string();
+}
+
+fn another_operand(random: &mut Random, draft: &mut Draft) {
+    let operand = statement(random, draft).operand.clone();
+    statement(random, draft).operand = operand;
+}
+
+fn card_left_out(random: &mut Random, draft: &mut Draft) {
+    let at = random.below(draft.cards.len());
+    draft.cards.remove(at);
+}
+
+fn card_twice(random: &mut Random, draft: &mut Draft) {
+    let card = statement(random, draft).clone();
+    let at = random.within(0..=draft.cards.len());
+    draft.cards.insert(at, card);
+}
+
+fn cards_exchanged(random: &mut Random, draft: &mut Draft) {
+    let count = draft.cards.len();
+    draft.cards.swap(random.below(count), random.below(count));
+}
+
+fn another_start(random: &mut Random, draft: &mut Draft) {
+    let start = Card { operation: "START".to_string(), gaps: [1; 3], ..Card::default() };
+    let at = random.within(0..=draft.cards.len());
+    draft.cards.insert(at, start);
+}
+
+fn card_behind_end(random: &mut Random, draft: &mut Draft) {
+    let comment = random.pick(&["", "* BEHIND", " DS C", " END", "x", "1 FOO )"]).to_string();
+    draft.cards.push(Card { comment: Some(comment), ..Card::default() });
+}
+
+/// Starts so high that the counter or a name passes the end of storage.
+fn high_start(random: &mut Random, draft: &mut Draft) {
+    let back = random.pick(&[1, 2, 3, 4, 6, 10, 20, 60, 300]);
+    let start = format!("{}", 65_536 - back);
+    let is_start = |card: &&mut Card| card.operation == "START";
+    draft.cards.iter_mut().filter(is_start).for_each(|card| card.operand = start.clone());
+}
+
+fn high_start_and_wrong_operand(random: &mut Random, draft: &mut Draft) {
+    wrong_operand(random, draft);
+    high_start(random, draft);
+}
+
+fn no_end(_: &mut Random, draft: &mut Draft) {
+    draft.cards.retain(|card| card.operation != "END");
+}
+
+fn blank_card(random: &mut Random, draft: &mut Draft) {
+    let at = random.within(0..=draft.cards.len());
+    draft.cards.insert(at, Card { comment: Some(String::new()), ..Card::default() });
+}
