@@ -12,6 +12,7 @@ impl Writer<'_> {
         let needed = self.random.pick(&[1, 1, 2, 3, 5, 9, 16]);
         let hex_digits = 2 * needed - self.random.below(2);
         let value = match kind {
+            _ if self.wild > 0 && self.random.one_in(8) => String::new(),
             b'C' => self.quoted(needed),
             b'X' => self.digits(b"0123456789ABCDEF", hex_digits),
             _ => self.digits(b"0123456789", needed),
@@ -35,6 +36,7 @@ impl Writer<'_> {
         let copies = self.copies(256 / length.max(1));
         let value = match length {
             2 => self.either(),
+            _ if self.goes_wild() => self.relocatable(),
             _ => self.absolute(0..=65_535),
         };
         let length =

@@ -5,8 +5,8 @@ use crate::random::Random;
 /// A card before it is punched.
 #[derive(Clone, Default)]
 pub struct Card {
-    /// The whole text of a comment.
-    pub comment: Option<String>,
+    /// The whole text of a card that is not drafted by its entries, such as a comment.
+    pub whole: Option<String>,
     pub name: String,
     pub operation: String,
     pub operand: String,
@@ -38,10 +38,20 @@ pub struct Draft {
 }
 
 impl Card {
+    /// A card without operand.
+    pub fn of(operation: &str) -> Card {
+        Card { operation: operation.to_string(), gaps: [1; 3], ..Card::default() }
+    }
+
+    /// A card that is not drafted by its entries.
+    pub fn whole(text: &str) -> Card {
+        Card { whole: Some(text.to_string()), ..Card::default() }
+    }
+
     /// The text of the statement columns, and perhaps of more.
     fn text(&self, columns: usize) -> String {
-        if let Some(comment) = &self.comment {
-            return comment.clone();
+        if let Some(whole) = &self.whole {
+            return whole.clone();
         }
         let [before_operation, before_operand, before_remark] = self.gaps;
         let blanks = |count: usize| " ".repeat(count);
@@ -71,6 +81,18 @@ impl Draft {
         } else {
             71
         }
+    }
+
+    /// Puts a card before the one at this place.
+    pub fn insert(&mut self, at: usize, card: Card) {
+        self.cards.insert(at, card);
+        self.names.iter_mut().filter(|name| name.card >= at).for_each(|name| name.card += 1);
+    }
+
+    /// The place behind START, or the first if there is no START.
+    pub fn behind_start(&self) -> usize {
+        let start = self.cards.iter().position(|card| card.operation == "START");
+        start.map_or(0, |start| start + 1)
     }
 
     /// The cards, each as long as it is wide.

@@ -101,7 +101,8 @@ impl Writer<'_> {
             "65535*257-65535*256",
             "4096*4096-65535*256",
             "0-4096*4096",
-            "65535*256+65535-65535*256",
+            "65535*256+256-65535*256",
+            "0-65535*256-257+65535*256",
             "65535*65535*65535*65535*65535*65535*0",
         ];
         self.random.pick(&texts).to_string()
@@ -136,8 +137,10 @@ impl Writer<'_> {
 
     /// An expression with this value, up to 65535.
     pub fn number(&mut self, value: usize) -> String {
-        match self.random.below(16) {
-            0..=8 => self.term(value),
+        match self.random.below(17) {
+            0..=7 => self.term(value),
+            8 if self.random.one_in(2) => self.by_largest(value),
+            8 => self.term(value),
             9 => self.by_name(value),
             10 | 11 => self.by_product(value),
             12 => {
@@ -155,6 +158,13 @@ impl Writer<'_> {
                 format!("{}+{}", self.term(part), self.term(value - part))
             }
         }
+    }
+
+    /// A sum that goes to an end of the partial range on its way.
+    fn by_largest(&mut self, value: usize) -> String {
+        let high = "65535*256+255-65535*256-255";
+        let low = "0-65535*256-256+65535*256+256";
+        format!("{}+{}", self.random.pick(&[high, low]), self.term(value))
     }
 
     fn by_name(&mut self, value: usize) -> String {

@@ -33,7 +33,7 @@ pub fn made(seed: u64, number: u64) -> Made {
     let spoils = random.pick(&[0, 0, 0, 1, 1, 1, 1, 1, 2, 3]);
     let mut spoiled = Vec::new();
     for _ in 0..spoils {
-        if draft.cards.iter().any(|card| card.comment.is_none()) {
+        if draft.cards.iter().any(|card| card.whole.is_none()) {
             let (name, spoil) = random.weighted(&SPOILS);
             spoil(random, &mut draft);
             spoiled.push(name);

@@ -32,6 +32,14 @@ pub fn mnemonics() -> impl Iterator<Item = &'static str> {
     ["START", "EQU", "ORG", "DC", "DS", "USING", "DROP", "END"].into_iter().chain(instructions)
 }
 
+/// An operation with values for pass two, each kind as often as the others.
+pub fn any_kind(random: &mut Random) -> &'static str {
+    let (_, instructions) = random.pick(&INSTRUCTIONS);
+    let others: &[&str] = &["DC", "USING", "DROP"];
+    let kind = if random.one_in(5) { others } else { instructions };
+    random.pick(kind)
+}
+
 /// Any instruction.
 pub fn instruction(random: &mut Random) -> &'static str {
     let mnemonics = random.weighted(&INSTRUCTIONS);
@@ -48,7 +56,7 @@ impl Writer<'_> {
             Some(Operation::Org) => self.relocatable(),
             Some(Operation::Dc) => self.constant(),
             Some(Operation::Ds) => self.area(),
-            Some(Operation::Using) => format!("{},{}", self.either(), self.absolute(1..=2)),
+            Some(Operation::Using) => format!("{},{}", self.base(), self.absolute(1..=2)),
             Some(Operation::Drop) => self.absolute(1..=2),
             Some(Operation::End) if self.random.one_in(2) => String::new(),
             Some(Operation::End) => self.relocatable(),
@@ -81,6 +89,15 @@ impl Writer<'_> {
             Some(value) => self.number(usize::from(value)),
             None => self.relocatable(),
         }
+    }
+
+    /// A base, at times so high that displacements would wrap.
+    fn base(&mut self) -> String {
+        if !self.random.one_in(10) {
+            return self.either();
+        }
+        let below_the_end = self.random.within(1..=60);
+        format!("{}+{}", self.relocatable_term(), 65_536 - below_the_end)
     }
 
     /// A jump's target: a name, or a place at most 255 bytes behind the next instruction.
@@ -140,19 +157,28 @@ impl Writer<'_> {
             }
             Item::Given(_) => [None, None],
         };
-        let [first, second] = items;
+        let [first, second] = if self.goes_wild() {
+            [(); 2].map(|()| self.random.one_in(2).then(|| "1".to_string()))
+        } else {
+            items
+        };
         let [one, other] = [self.random.one_in(2), self.random.one_in(2)];
         format!("{},{}", self.address(first, one), self.address(second, other))
     }
 
     /// The lengths of a card with two of them, each written or left to be implied.
     fn two_lengths(&mut self) -> [Option<String>; 2] {
-        let second = self.random.near(1..=16);
-        let difference = self.random.near(0..=15);
-        let lengths = [
-            self.absolute(second + difference..=second + difference),
-            self.absolute(second..=second),
-        ];
+        let mut second = self.random.near(1..=16);
+        let mut first = second + self.random.near(0..=15);
+        if self.goes_wild() {
+            [first, second] = self.random.pick(&[
+                [17, 17],
+                [32, 17],
+                [second + 16, second],
+                [second - 1, second],
+            ]);
+        }
+        let lengths = [self.absolute(first..=first), self.absolute(second..=second)];
         lengths.map(|length| (!self.random.one_in(3)).then_some(length))
     }
 }

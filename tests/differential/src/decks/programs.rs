@@ -74,12 +74,12 @@ fn many_named(random: &mut Random) -> Vec<&'static str> {
 }
 
 fn card(random: &mut Random, operation: &str) -> Card {
-    let comment = operation.is_empty().then(|| random.pick(&COMMENTS).to_string());
+    let whole = operation.is_empty().then(|| random.pick(&COMMENTS).to_string());
     let remark = if random.one_in(4) { random.pick(&REMARKS) } else { "" };
     let gaps = [0; 3].map(|_| random.pick(&[1, 1, 2, 5]));
     let to_the_end = random.one_in(30);
     let (operation, remark) = (operation.to_string(), remark.to_string());
-    Card { comment, operation, remark, gaps, to_the_end, ..Card::default() }
+    Card { whole, operation, remark, gaps, to_the_end, ..Card::default() }
 }
 
 /// Names every EQU, no card that must not have a name, and one in so many of the others.
@@ -126,7 +126,7 @@ pub fn name(random: &mut Random) -> String {
 /// Writes the operand of a card, with something wrong once in `wild` times.
 pub fn write(random: &mut Random, draft: &mut Draft, at: usize, wild: usize) {
     let card = &mut draft.cards[at];
-    if card.comment.is_some() {
+    if card.whole.is_some() {
         return;
     }
     let earlier = matches!(card.operation.as_str(), "EQU" | "ORG");

@@ -1,7 +1,7 @@
 //! Ways to spoil a deck. Most leave all of it right but for one card.
 
 use super::draft::{Card, Draft};
-use super::operands::instruction;
+use super::operands::{any_kind, instruction};
 use super::programs::{name, write};
 use crate::random::Random;
 use model::assemble::{assemble, WORK};
@@ -10,7 +10,7 @@ use model::assemble::{assemble, WORK};
 pub type Spoil = fn(&mut Random, &mut Draft);
 
 /// The ways, each with how often it is taken.
-pub const SPOILS: [(usize, (&str, Spoil)); 22] = [
+pub const SPOILS: [(usize, (&str, Spoil)); 23] = [
     (14, ("a wrong operand", wrong_operand)),
     (16, ("a refusal of pass two", refusal_of_pass_two)),
     (5, ("a changed character", changed_character)),
@@ -32,10 +32,11 @@ pub const SPOILS: [(usize, (&str, Spoil)); 22] = [
     (4, ("a high start", high_start)),
     (1, ("a blank card", blank_card)),
     (2, ("no END", no_end)),
-    (4, ("a high start and a wrong operand", high_start_and_wrong_operand)),
+    (4, ("a high start and wrong data", high_start_and_wrong_data)),
+    (2, ("the counter at 65536", counter_at_the_end)),
 ];
 
-/// Any card of the deck but a comment, or the last where there is none.
+/// Any card of the deck but a comment.
 fn statement<'a>(random: &mut Random, draft: &'a mut Draft) -> &'a mut Card {
     let at = statement_place(random, draft);
     &mut draft.cards[at]
@@ -43,7 +44,7 @@ fn statement<'a>(random: &mut Random, draft: &'a mut Draft) -> &'a mut Card {
 
 fn statement_place(random: &mut Random, draft: &Draft) -> usize {
     let places: Vec<usize> =
-        (0..draft.cards.len()).filter(|&at| draft.cards[at].comment.is_none()).collect();
+        (0..draft.cards.len()).filter(|&at| draft.cards[at].whole.is_none()).collect();
     places[random.below(places.len())]
 }
 
@@ -53,16 +54,18 @@ fn wrong_operand(random: &mut Random, draft: &mut Draft) {
     write(random, draft, at, wild);
 }
 
-/// Looks for a wrong operand that gives a number of refusal chosen before.
+/// Looks for a wrong operand, on a card put in, that gives a number chosen before.
 fn refusal_of_pass_two(random: &mut Random, draft: &mut Draft) {
-    let number = random.pick(&[18, 19, 20, 21, 22, 22, 23, 23, 23]);
+    let number = random.pick(&[18, 19, 19, 20, 21, 21, 22, 23, 23]);
+    let first = draft.behind_start();
+    let at = random.within(first..=first.max(draft.cards.len() - 1));
+    draft.insert(at, Card::of(any_kind(random)));
     for _ in 0..20 {
-        let mut spoiled = draft.clone();
-        wrong_operand(random, &mut spoiled);
-        let source = spoiled.punched().concat();
-        let answer = assemble(spoiled.width as u32, &source, WORK, usize::MAX);
+        let wild = random.pick(&[2, 3, 4]);
+        write(random, draft, at, wild);
+        let source = draft.punched().concat();
+        let answer = assemble(draft.width as u32, &source, WORK, usize::MAX);
         if answer.is_err_and(|refusal| refusal.number == number) {
-            *draft = spoiled;
             return;
         }
     }
@@ -151,17 +154,17 @@ fn name_twice(random: &mut Random, draft: &mut Draft) {
 }
 
 fn unknown_operation(random: &mut Random, draft: &mut Draft) {
-    let unknown = [
-        "TITLE", "HPL", "APL", "SIO", "SVC", "EXTRN", "ENTRY", "PRINT", "NOP", "MV", "MVCX", "BX",
-        "JJ", "*", ",", "STARTS", "0", "BNOZX", "'", "",
-    ];
-    let operation = random.pick(&unknown).to_string();
-    let card = statement(random, draft);
-    if operation.is_empty() {
-        card.operand = String::new();
-        card.remark = String::new();
+    let others =
+        ["TITLE", "HPL", "APL", "SIO", "SVC", "EXTRN", "ENTRY", "PRINT", "*", ",", "'", "0"];
+    let mut operation = random.pick(&others).to_string();
+    if random.one_in(2) {
+        operation = instruction(random).to_string();
+        let letter = random.pick(&["", "N", "O", "Z", "L", "H", "E", "F", "T", "X", "C"]);
+        let at = random.within(0..=operation.len());
+        let end = random.pick(&[at, (at + 1).min(operation.len())]);
+        operation.replace_range(at..end, letter);
     }
-    card.operation = operation;
+    statement(random, draft).operation = operation;
 }
 
 fn another_operation(random: &mut Random, draft: &mut Draft) {
@@ -183,7 +186,7 @@ fn card_left_out(random: &mut Random, draft: &mut Draft) {
 fn card_twice(random: &mut Random, draft: &mut Draft) {
     let card = statement(random, draft).clone();
     let at = random.within(0..=draft.cards.len());
-    draft.cards.insert(at, card);
+    draft.insert(at, card);
 }
 
 fn cards_exchanged(random: &mut Random, draft: &mut Draft) {
@@ -192,14 +195,13 @@ fn cards_exchanged(random: &mut Random, draft: &mut Draft) {
 }
 
 fn another_start(random: &mut Random, draft: &mut Draft) {
-    let start = Card { operation: "START".to_string(), gaps: [1; 3], ..Card::default() };
     let at = random.within(0..=draft.cards.len());
-    draft.cards.insert(at, start);
+    draft.insert(at, Card::of("START"));
 }
 
 fn card_behind_end(random: &mut Random, draft: &mut Draft) {
-    let comment = random.pick(&["", "* BEHIND", " DS C", " END", "x", "1 FOO )"]).to_string();
-    draft.cards.push(Card { comment: Some(comment), ..Card::default() });
+    let behind = ["", "* BEHIND", " DS C", " END", "x", "1 FOO )"];
+    draft.cards.push(Card::whole(random.pick(&behind)));
 }
 
 /// Starts so high that the counter or a name passes the end of storage.
@@ -210,9 +212,43 @@ fn high_start(random: &mut Random, draft: &mut Draft) {
     draft.cards.iter_mut().filter(is_start).for_each(|card| card.operand = start.clone());
 }
 
-fn high_start_and_wrong_operand(random: &mut Random, draft: &mut Draft) {
-    wrong_operand(random, draft);
+/// Starts high, and has a wrong DC or DS with a name on the first card behind START.
+fn high_start_and_wrong_data(random: &mut Random, draft: &mut Draft) {
     high_start(random, draft);
+    let card = Card { name: name(random), ..Card::of(random.pick(&["DC", "DS"])) };
+    let at = draft.behind_start();
+    draft.insert(at, card);
+    let wild = random.pick(&[1, 2, 3]);
+    write(random, draft, at, wild);
+}
+
+/// Fills storage to its end, and goes on with cards that use the counter there.
+fn counter_at_the_end(random: &mut Random, draft: &mut Draft) {
+    let cards = [
+        "A EQU *-1",
+        "A EQU *",
+        "A EQU *-*",
+        " USING *-1,1",
+        " USING *,2",
+        " DS 0C",
+        "A DS 0C",
+        "B DS 0CL2",
+        " DC 0C'A'",
+        " DC 0A(*)",
+        " DC 0A(*-1)",
+        " ORG *-1",
+        " ORG *",
+        " DROP 1",
+        "A J *",
+        " DC C'A'",
+        " MVI 5,0",
+    ];
+    let ends = [" END", " END *", " END *-1"];
+    let last = random.pick(&[0, 1, 255]);
+    let mut texts = vec![format!("P START {}", 65_535 - last), format!(" DS CL{}", last + 1)];
+    texts.extend((0..random.within(1..=3)).map(|_| random.pick(&cards).to_string()));
+    texts.push(random.pick(&ends).to_string());
+    draft.cards = texts.iter().map(|text| Card::whole(text)).collect();
 }
 
 fn no_end(_: &mut Random, draft: &mut Draft) {
@@ -221,5 +257,5 @@ fn no_end(_: &mut Random, draft: &mut Draft) {
 
 fn blank_card(random: &mut Random, draft: &mut Draft) {
     let at = random.within(0..=draft.cards.len());
-    draft.cards.insert(at, Card { comment: Some(String::new()), ..Card::default() });
+    draft.insert(at, Card::whole(""));
 }
