@@ -1,18 +1,11 @@
 /* Loads books through the C interface, and compares each answer and every lent byte. */
+#include "lent.h"
 #include "mersclund.h"
 
 #include <inttypes.h>
 #include <stdio.h>
-#include <string.h>
 
-enum { GUARD = 64, ROOM = 70000, CHANGES = 3 };
-
-/* A lent buffer, with guard bytes on both sides, and what it must hold after the call. */
-struct lent {
-    uint8_t raw[GUARD + ROOM + GUARD];
-    uint8_t wanted[GUARD + ROOM + GUARD];
-    size_t length;
-};
+enum { CHANGES = 3 };
 
 /* Bytes that loading must have put into storage, in hex. */
 struct change {
@@ -116,41 +109,6 @@ static const struct test refused[] = {
     { "field and entry over", TOP_ENTRY "FFFF", 1, 100, REFUSED(MERSCLUND_REFUSED_OVER, 3) },
 };
 
-static int digit(char c)
-{
-    const char *digits = "0123456789ABCDEF", *found = strchr(digits, c);
-    return c != '\0' && found != NULL ? (int)(found - digits) : -1;
-}
-
-/* Writes the bytes that the hex digits stand for, and returns how many; else is skipped. */
-static size_t bytes_of(const char *hex, uint8_t *to)
-{
-    size_t digits = 0;
-    for (; *hex != '\0'; hex++) {
-        int value = digit(*hex);
-        if (value < 0)
-            continue;
-        to[digits / 2] = (uint8_t)(digits % 2 == 0 ? value << 4 : to[digits / 2] | value);
-        digits++;
-    }
-    return digits / 2;
-}
-
-/* Fills a buffer and its guards with a pattern that no text repeats. */
-static void fill(struct lent *lent, size_t length)
-{
-    size_t i;
-    for (i = 0; i < sizeof lent->raw; i++)
-        lent->raw[i] = (uint8_t)(i * 167 + i / 256 + 29);
-    lent->length = length;
-}
-
-/* Says whether the whole buffer, guards included, is what it must be. */
-static int kept(const struct lent *lent)
-{
-    return memcmp(lent->raw, lent->wanted, sizeof lent->raw) == 0;
-}
-
 static uint64_t packed(const struct test *test)
 {
     if (test->refusal != MERSCLUND_ACCEPTED)
@@ -212,6 +170,6 @@ int main(void)
     size_t passed = passing(accepted, count_accepted) + passing(refused, count_refused);
     size_t failed = count_accepted + count_refused - passed;
 
-    printf("c: %zu passed, %zu failed\n", passed, failed);
+    printf("c, loading: %zu passed, %zu failed\n", passed, failed);
     return failed == 0 ? 0 : 1;
 }

@@ -25,7 +25,10 @@ pub fn run(program: &Program, directory: &Path, seed: u64) -> io::Result<bool> {
             let made = lent(WIDTH, listing.source.clone(), WORK, 65_536);
             let difference = difference(&mut library, &made, |answer| match answer {
                 Err(refusal) => Some(format!("{refusal:?}")),
-                Ok(assembled) => listing.difference(&Book::read(&assembled.book)?),
+                Ok(assembled) => match Book::read(&assembled.book) {
+                    None => Some("no book".to_string()),
+                    Some(book) => listing.difference(&book),
+                },
             });
             tally.meet("listings");
             tally.compare(difference.map(|what| format!("{}: {what}", path.display())));
@@ -81,5 +84,5 @@ fn difference(
 ) -> Option<String> {
     let compared = library.compare(made);
     let what = compared.difference.or_else(|| wrong(compared.library.as_ref()?))?;
-    Some(format!("\n{}{what}", readable(made)))
+    Some(format!("{what}\n{}", readable(made)))
 }

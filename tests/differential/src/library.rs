@@ -90,16 +90,14 @@ fn answer(packed: u64, out: &[u8]) -> Answer {
     Ok(Assembled { book: out[..length].to_vec(), names: (packed >> 32) as u16 })
 }
 
-/// An answer in words, on one line or with the printed book on more.
+/// An answer in words, with the first lines of the book as the printer prints it.
 fn said(answer: &Answer) -> String {
     match answer {
         Err(Refusal { number, card }) => format!("refused {number}, card {card}\n"),
         Ok(Assembled { book, names }) => {
-            let length = book.len();
-            let printed = print(book);
-            let lines: String =
-                printed.lines().take(12).map(|line| format!("    {line:.150}\n")).collect();
-            format!("accepted, {length} bytes, {names} names\n{lines}")
+            let line = |line: &str| format!("    {line:.150}\n");
+            let lines: String = print(book).lines().take(12).map(line).collect();
+            format!("accepted, {} bytes, {names} names\n{lines}", book.len())
         }
     }
 }

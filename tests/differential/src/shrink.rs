@@ -2,11 +2,17 @@
 
 use crate::decks::Made;
 
+/// Longer decks are left as they are, since shrinking them takes long.
+const MOST_CARDS: usize = 600;
+
 /// The deck with as many cards left out as can be while it still shows the difference.
 pub fn shrunk(made: &Made, mut differs: impl FnMut(&Made) -> bool) -> Made {
     let width = made.width as usize;
     let mut small = made.clone();
-    if width == 0 || small.source.len() % width != 0 {
+    if width == 0
+        || !small.source.len().is_multiple_of(width)
+        || small.source.len() / width > MOST_CARDS
+    {
         return small;
     }
     let mut run = (small.source.len() / width).next_power_of_two();
@@ -27,16 +33,22 @@ pub fn shrunk(made: &Made, mut differs: impl FnMut(&Made) -> bool) -> Made {
     small
 }
 
-/// The deck for a reader: what is lent, and each card with its number.
+/// How many cards of a deck are printed.
+const PRINTED: usize = 40;
+
+/// The deck for a reader: what is lent, and the first cards with their numbers.
 pub fn readable(made: &Made) -> String {
     let Made { width, source, work, out, .. } = made;
     let head = format!("  width {width}, {} bytes, work {work}, out {out}\n", source.len());
-    let cards = source.chunks((*width as usize).clamp(1, 200)).take(60);
+    let cards = source.chunks((*width as usize).clamp(1, 200));
+    let more = cards.len().saturating_sub(PRINTED);
     let line = |(number, card): (usize, &[u8])| {
         let text: String = card.iter().map(|&byte| shown(byte)).collect();
         format!("{number:6} |{}|\n", text.trim_end())
     };
-    (1..).zip(cards).map(line).fold(head, |text, line| text + &line)
+    let lines: String = (1..).zip(cards).take(PRINTED).map(line).collect();
+    let rest = if more > 0 { format!("       and {more} more\n") } else { String::new() };
+    head + &lines + &rest
 }
 
 /// A byte as it is printed: those that are no characters of ASCII in hex.

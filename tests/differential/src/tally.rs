@@ -37,15 +37,20 @@ impl Tally {
         }
     }
 
+    /// Says whether the next difference will be printed.
+    pub fn prints(&self) -> bool {
+        self.differ < PRINTED
+    }
+
     /// Counts a comparison, and prints the difference if there is one.
     pub fn compare(&mut self, difference: Option<String>) {
         match difference {
             None => self.agree += 1,
             Some(difference) => {
-                self.differ += 1;
-                if self.differ <= PRINTED {
+                if self.prints() {
                     println!("{difference}");
                 }
+                self.differ += 1;
             }
         }
     }

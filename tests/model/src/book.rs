@@ -51,11 +51,13 @@ impl Book {
 
     /// Writes the book. Whether what it says keeps the layout is not asked.
     pub fn bytes(&self) -> Vec<u8> {
-        let mut bytes = (self.rest_length() as u32).to_be_bytes().to_vec();
+        let length = self.rest_length();
+        let mut bytes = Vec::with_capacity(4 + length);
+        bytes.extend((length as u32).to_be_bytes());
         bytes.extend([1, u8::from(self.entry.is_some())]);
         bytes.extend(self.entry.unwrap_or(0).to_be_bytes());
         for record in &self.records {
-            bytes.extend(record.bytes());
+            record.append(&mut bytes);
         }
         bytes
     }
@@ -94,14 +96,14 @@ impl Record {
             && self.offsets.iter().all(|&offset| usize::from(offset) + 2 <= length)
     }
 
-    fn bytes(&self) -> Vec<u8> {
-        let mut bytes = (self.rest_length() as u16).to_be_bytes().to_vec();
+    /// Appends the record to the bytes of a book.
+    fn append(&self, bytes: &mut Vec<u8>) {
+        bytes.extend((self.rest_length() as u16).to_be_bytes());
         bytes.extend(self.card.to_be_bytes());
         bytes.extend(self.address.to_be_bytes());
         bytes.push(self.offsets.len() as u8);
         bytes.extend(&self.offsets);
         bytes.extend(&self.text);
-        bytes
     }
 
     /// The length that the record's first two bytes give.

@@ -64,7 +64,8 @@ impl Writer<'_> {
     /// Copies up to so many, or nothing for one.
     fn copies(&mut self, most: usize) -> String {
         if self.goes_wild() {
-            return self.random.pick(&["0", "256", "257", "4294967297", "65537"]).to_string();
+            let copies = ["0", "0", "256", "257", "65537", "4294967297", "18446744073709551617"];
+            return self.random.pick(&copies).to_string();
         }
         let most = self.random.pick(&[1, 3, most]).min(most);
         match self.random.below(4) {

@@ -71,6 +71,7 @@ fn refusal_of_pass_two(random: &mut Random, draft: &mut Draft) {
     }
 }
 
+/// Characters that change the form of an operand, most of them.
 const CHARACTERS: &[u8] = b"'''(((),,,**++--0019AABCDLXZ$ .";
 
 fn character(random: &mut Random) -> char {
@@ -78,19 +79,19 @@ fn character(random: &mut Random) -> char {
 }
 
 fn changed_character(random: &mut Random, draft: &mut Draft) {
-    removed_character_at(random, draft, true);
+    let character = character(random).to_string();
+    replace_character(random, draft, &character);
 }
 
 fn removed_character(random: &mut Random, draft: &mut Draft) {
-    removed_character_at(random, draft, false);
+    replace_character(random, draft, "");
 }
 
-fn removed_character_at(random: &mut Random, draft: &mut Draft, replaced: bool) {
-    let replacement = if replaced { character(random).to_string() } else { String::new() };
+fn replace_character(random: &mut Random, draft: &mut Draft, by: &str) {
     let operand = &mut statement(random, draft).operand;
     if !operand.is_empty() {
         let at = random.below(operand.len());
-        operand.replace_range(at..at + 1, &replacement);
+        operand.replace_range(at..at + 1, by);
     }
 }
 
@@ -119,7 +120,7 @@ fn misformed(random: &mut Random, draft: &mut Draft) {
         10 => format!("-{operand}"),
         11 => format!("{operand}+"),
         12 => format!("({operand})"),
-        13 => operand.replace('(', "").replace(')', ""),
+        13 => operand.replace(['(', ')'], ""),
         14 => head.to_string(),
         _ => random
             .pick(&["X'10000'", "65536", "000001", "B'2'", "C'ABC'", "C''", "ABCDEFG"])
