@@ -1,6 +1,7 @@
 //! Making a deck smaller that shows a difference.
 
 use crate::decks::Made;
+use model::cards::statement_columns;
 
 /// Longer decks are left as they are, since shrinking them takes long.
 const MOST_CARDS: usize = 600;
@@ -43,18 +44,21 @@ pub fn readable(made: &Made) -> String {
     let cards = source.chunks((*width as usize).clamp(1, 200));
     let more = cards.len().saturating_sub(PRINTED);
     let line = |(number, card): (usize, &[u8])| {
-        let text: String = card.iter().map(|&byte| shown(byte)).collect();
-        format!("{number:6} |{}|\n", text.trim_end())
+        let columns = statement_columns(*width).unwrap_or(card.len()).min(card.len());
+        let (statement, behind) = card.split_at(columns);
+        format!("{number:6} |{}|{}\n", shown(statement), shown(behind))
     };
     let lines: String = (1..).zip(cards).take(PRINTED).map(line).collect();
     let rest = if more > 0 { format!("       and {more} more\n") } else { String::new() };
     head + &lines + &rest
 }
 
-/// A byte as it is printed: those that are no characters of ASCII in hex.
-fn shown(byte: u8) -> String {
-    match byte {
+/// Bytes as they are printed, without the blanks at the end: what is not ASCII in hex.
+fn shown(bytes: &[u8]) -> String {
+    let shown = |&byte: &u8| match byte {
         b' '..=b'~' => char::from(byte).to_string(),
         _ => format!("\\x{byte:02X}"),
-    }
+    };
+    let end = bytes.iter().rposition(|&byte| byte != b' ').map_or(0, |last| last + 1);
+    bytes[..end].iter().map(shown).collect()
 }
