@@ -31,13 +31,37 @@ impl Writer<'_> {
             let value = self.random.near(range);
             return self.number(value);
         }
-        match self.random.below(6) {
-            0 => self.relocatable_term(),
-            1 => self.undefined(),
-            2 => self.too_large(),
-            3 => self.number((*range.start() + 65_535) % 65_536),
+        match self.random.below(13) {
+            0 => self.misformed(),
+            1 | 2 => self.relocatable_term(),
+            3 | 4 => self.undefined(),
+            5 | 6 => self.too_large(),
+            7 | 8 => self.number((*range.start() + 65_535) % 65_536),
             _ => self.number((*range.end() + 1) % 65_536),
         }
+    }
+
+    /// Something that is no term, or none of the right size.
+    pub fn misformed(&mut self) -> String {
+        let texts = [
+            "000001",
+            "65536",
+            "X'00001'",
+            "X''",
+            "X'G'",
+            "B'00000000000000001'",
+            "B''",
+            "B'2'",
+            "C'ABC'",
+            "C''",
+            "C'A",
+            "D'1'",
+            "ABCDEFG",
+            "A.B",
+            "-1",
+            "(1)",
+        ];
+        self.random.pick(&texts).to_string()
     }
 
     /// A relocatable expression.

@@ -1,7 +1,8 @@
-//! Decks at the limits: cards, names, and books as long as they get.
+//! Decks at the limits: of cards, names, books and lent lengths, and of what is a mnemonic.
 
-use super::Made;
+use super::{mnemonics, Made};
 use model::assemble::{assemble, WORK};
+use std::collections::BTreeSet;
 
 /// All of them, each with what it is for.
 pub fn limits() -> Vec<Made> {
@@ -11,7 +12,42 @@ pub fn limits() -> Vec<Made> {
         decks.extend(most_names(width));
         decks.extend(lent_lengths(width));
     }
+    decks.extend(near_mnemonics().iter().map(|mnemonic| {
+        deck(80, "a mnemonic or nearly one", &program("", 1, |_| format!(" {mnemonic} 5")))
+    }));
     decks
+}
+
+/// All that might be taken for a mnemonic: short ones, ends of branches and jumps, and those
+/// with one letter changed, left out or put behind.
+fn near_mnemonics() -> BTreeSet<String> {
+    let letters = "ABCDEFGHIJKLMNOPQRSTUVWXYZ";
+    let mut near: BTreeSet<String> = words(letters, 2).collect();
+    for first in ["B", "J"] {
+        near.extend(words("NOZLHEPMTF", 3).map(|end| format!("{first}{end}")));
+    }
+    for mnemonic in mnemonics() {
+        for at in 0..mnemonic.len() {
+            let (before, behind) = (&mnemonic[..at], &mnemonic[at + 1..]);
+            near.extend(letters.chars().map(|letter| format!("{before}{letter}{behind}")));
+            near.insert(format!("{before}{behind}"));
+        }
+        near.extend(letters.chars().map(|letter| format!("{mnemonic}{letter}")));
+    }
+    near
+}
+
+/// All words of at most so many of the letters.
+fn words(letters: &str, most: usize) -> impl Iterator<Item = String> {
+    let mut all = vec![String::new()];
+    let mut longest = all.clone();
+    for _ in 0..most {
+        let append =
+            |word: &String| letters.chars().map(|l| format!("{word}{l}")).collect::<Vec<_>>();
+        longest = longest.iter().flat_map(append).collect();
+        all.extend(longest.clone());
+    }
+    all.into_iter()
 }
 
 fn deck(width: u32, what: &'static str, cards: &[String]) -> Made {
@@ -100,6 +136,7 @@ fn lent_lengths(width: u32) -> Vec<Made> {
         with("one byte", |made| made.source.truncate(1)),
         with("a width of 0", |made| made.width = 0),
         with("the largest width", |made| made.width = u32::MAX),
+        with("the width and 65,536", |made| made.width += 65_536),
         with("everything wrong", |made| {
             made.width = 81;
             made.work = 0;

@@ -71,6 +71,14 @@ impl Writer<'_> {
     }
 
     fn start(&mut self) -> String {
+        if self.goes_wild() {
+            let terms = ["B'1'", "C'A'", "*", "1+1", "A", "1,2"];
+            return if self.random.one_in(2) {
+                self.misformed()
+            } else {
+                self.random.pick(&terms).to_string()
+            };
+        }
         let any = self.random.within(0..=60_000);
         let start = self.random.pick(&[0, 0, 1, 256, 4096, any]);
         match self.random.below(4) {
@@ -135,7 +143,8 @@ impl Writer<'_> {
 
     fn one_address(&mut self, q: Q) -> String {
         let indexed = !self.random.one_in(3);
-        let mut operand = self.address(None, indexed);
+        let item = self.goes_wild().then(|| "1".to_string());
+        let mut operand = self.address(item, indexed);
         if indexed && self.random.one_in(2) {
             operand = operand.replacen("(,", "(", 1);
         }

@@ -106,7 +106,7 @@ fn misformed(random: &mut Random, draft: &mut Draft) {
     let card = statement(random, draft);
     let operand = card.operand.clone();
     let (head, tail) = operand.split_once(',').unwrap_or((&operand, "1"));
-    card.operand = match random.below(16) {
+    card.operand = match random.below(15) {
         0 => String::new(),
         1 => format!("{operand},"),
         2 => format!(",{operand}"),
@@ -121,10 +121,7 @@ fn misformed(random: &mut Random, draft: &mut Draft) {
         11 => format!("{operand}+"),
         12 => format!("({operand})"),
         13 => operand.replace(['(', ')'], ""),
-        14 => head.to_string(),
-        _ => random
-            .pick(&["X'10000'", "65536", "000001", "B'2'", "C'ABC'", "C''", "ABCDEFG"])
-            .to_string(),
+        _ => head.to_string(),
     };
 }
 
@@ -155,17 +152,9 @@ fn name_twice(random: &mut Random, draft: &mut Draft) {
 }
 
 fn unknown_operation(random: &mut Random, draft: &mut Draft) {
-    let others =
-        ["TITLE", "HPL", "APL", "SIO", "SVC", "EXTRN", "ENTRY", "PRINT", "*", ",", "'", "0"];
-    let mut operation = random.pick(&others).to_string();
-    if random.one_in(2) {
-        operation = instruction(random).to_string();
-        let letter = random.pick(&["", "N", "O", "Z", "L", "H", "E", "F", "T", "X", "C"]);
-        let at = random.within(0..=operation.len());
-        let end = random.pick(&[at, (at + 1).min(operation.len())]);
-        operation.replace_range(at..end, letter);
-    }
-    statement(random, draft).operation = operation;
+    let unknown =
+        ["TITLE", "HPL", "SIO", "SVC", "EXTRN", "NOP", "BX", "JNT", "MVCX", "*", ",", "'", "0"];
+    statement(random, draft).operation = random.pick(&unknown).to_string();
 }
 
 fn another_operation(random: &mut Random, draft: &mut Draft) {
