@@ -1,6 +1,6 @@
 //! Ways to spoil a deck. Most leave all of it right but for one card.
 
-use super::draft::{Card, Draft};
+use super::draft::{Card, Draft, Planned};
 use super::operands::{any_kind, instruction};
 use super::programs::{name, write};
 use crate::random::Random;
@@ -10,7 +10,7 @@ use model::assemble::{assemble, WORK};
 pub type Spoil = fn(&mut Random, &mut Draft);
 
 /// The ways, each with how often it is taken.
-pub const SPOILS: [(usize, (&str, Spoil)); 23] = [
+pub const SPOILS: [(usize, (&str, Spoil)); 24] = [
     (14, ("a wrong operand", wrong_operand)),
     (16, ("a refusal of pass two", refusal_of_pass_two)),
     (5, ("a changed character", changed_character)),
@@ -34,6 +34,7 @@ pub const SPOILS: [(usize, (&str, Spoil)); 23] = [
     (2, ("no END", no_end)),
     (4, ("a high start and wrong data", high_start_and_wrong_data)),
     (2, ("the counter at 65536", counter_at_the_end)),
+    (3, ("a displacement from a base", displacement_from_base)),
 ];
 
 /// Any card of the deck but a comment.
@@ -239,6 +240,34 @@ fn counter_at_the_end(random: &mut Random, draft: &mut Draft) {
     texts.extend((0..random.within(1..=3)).map(|_| random.pick(&cards).to_string()));
     texts.push(random.pick(&ends).to_string());
     draft.cards = texts.iter().map(|text| Card::whole(text)).collect();
+}
+
+/// Puts in a base and a displacement from it, often just in or out of reach.
+fn displacement_from_base(random: &mut Random, draft: &mut Draft) {
+    let relocatable: Vec<&Planned> =
+        draft.names.iter().filter(|name| name.absolute.is_none()).collect();
+    if relocatable.is_empty() {
+        return;
+    }
+    let name = &relocatable[random.below(relocatable.len())].name;
+    let base = random.pick(&[1, 10, 300, 65_400]);
+    let far = random.pick(&[base - 1, base, base + 1, base + 255, base + 256, 0, 5]);
+    let register = random.within(1..=2);
+    let other = 3 - register;
+    let between = [
+        format!(" DROP {register}"),
+        format!(" DROP {other}"),
+        format!(" USING {base},{register}"),
+        format!(" USING {name},{other}"),
+    ];
+    let mut texts = vec![format!(" USING {name}+{base},{register}")];
+    if random.one_in(2) {
+        texts.push(between[random.below(between.len())].clone());
+    }
+    texts.push(format!(" MVI {name}+{far}({register}),0"));
+    let end = draft.cards.len() - 1;
+    let cards: Vec<Card> = texts.iter().map(|text| Card::whole(text)).collect();
+    draft.cards.splice(end..end, cards);
 }
 
 fn no_end(_: &mut Random, draft: &mut Draft) {
