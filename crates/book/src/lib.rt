@@ -38,7 +38,7 @@ pub enum Step {
     Broken,
 }
 
-// Whether the layout is kept; then the entry.
+// Whether the layout is kept, of the header or of the whole book; then the entry.
 pub enum Layout {
     Whole(Entry),
     Broken,
@@ -129,7 +129,7 @@ impl Cursor {
     }
 }
 
-// The header alone.
+// The header alone: it says nothing of the records.
 pub fn read_header(book: &[u8]) -> Layout
     ensures { λ r. ⌜ r ≡ headerOf (now (book .entry)) ⌝ }
 {
