@@ -165,3 +165,10 @@ code-in-below n (p ∷ ps) b z e =
 pub code-below : (b : ℕ) → codeOf b < 256
 unfolding codeOf below-all listed codedFrom
 code-below b = code-in-below 256 listed b (omega arith) refl
+
+-- a test on what a call returned, as a test on what the definition reads
+pub is-byte : {r b k : ℕ} → r ≡ b → r ≡ k → eqb b k ≡ true
+is-byte e t = eq-eqb _ _ (sym e ∙ t)
+
+pub no-byte : {r b k : ℕ} → r ≡ b → (r ≡ k → ⊥) → eqb b k ≡ false
+no-byte e t = ne-eqb _ _ (λ q. t (e ∙ q))

@@ -1,0 +1,2 @@
+-- The laws of names and terms that other crates cite.
+pub mod Laws
