@@ -1,50 +1,36 @@
-use mathlib.Core.Bool.{true, false}
-use native.Mathlib.Omega.{arith}
-use mathlib.Core.Path.{_≡_, refl, sym, ap, _∙_}
+-- `read_characters` meets its contract, by what stands behind the opening apostrophe.
+use mathlib.Core.Path.{sym}
 use Rattle.terms.specs.Terms.{charactersAt}
 use borrow.Author.Needs.{needs}
 use Rattle.terms.proofs.read_characters.Statement.{statement}
 use Rattle.terms.proofs.read_characters.Tie as tie
-use Rattle.terms.proofs.read_characters.Reads as reads
-use Rattle.terms.proofs.read_characters.Lts as lts
-use Rattle.terms.proofs.quoted_at.Reads as quoted-at-reads
-use Rattle.terms.proofs.read_second.Reads as read-second-reads
 
--- src/lib.rt:161:24
 add-quoted-at : tie.Need-add-quoted-at
 add-quoted-at c = search needs
 
--- src/lib.rt:161:11
 quoted-at-requires : tie.Need-quoted-at-requires
 quoted-at-requires c κs = search needs
 
--- src/lib.rt:162:21
 enum-known-a : tie.Need-enum-known-a
 enum-known-a c = search needs
 
--- src/lib.rt:162:33
 read-second-requires : tie.Need-read-second-requires
 read-second-requires c κs = search needs
 
--- src/lib.rt:163:24
 enum-known-next : tie.Need-enum-known-next
 enum-known-next c = search needs
 
--- src/lib.rt:164:25
 enum-known-end : tie.Need-enum-known-end
 enum-known-end c = search needs
 
--- src/lib.rt:157:1
 returns : tie.Need-returns
 unfolding charactersAt
 returns c = rw (sym (c .before .before .before .before .quoted-at .ensures), c .before .before .a .given .1) (c .read-second .ensures)
 
--- src/lib.rt:157:1
 returns-2 : tie.Need-returns-2
 unfolding charactersAt
 returns-2 c = rw (sym (c .before .before .before .quoted-at .ensures), c .before .next .given .1)
 
--- src/lib.rt:157:1
 returns-3 : tie.Need-returns-3
 unfolding charactersAt
 returns-3 c = rw (sym (c .before .before .before .quoted-at .ensures), c .before .end .given .1)

@@ -1,53 +1,36 @@
-use mathlib.Core.Bool.{true, false}
-use native.Mathlib.Omega.{arith}
-use mathlib.Core.Path.{_≡_, refl, sym, ap, _∙_}
-use borrow.Author.Tests.{lt-ltb, le-ltb, le-leb, lt-leb, eq-eqb, ne-eqb, not-true, not-false}
-use Rattle.terms.specs.declared.Term.{Term}
-use Rattle.terms.specs.declared.Term.the-variants.{Number, Symbol, Here, Bad}
+-- `read_decimal` meets its contract, by its tests.
+use mathlib.Core.Path.{_≡_, sym, ap, _∙_}
+use borrow.Author.Tests.{lt-ltb, le-ltb, eq-eqb, ne-eqb}
 use lib.ListN.{getD}
 use Rattle.terms.specs.Terms.{decimalAt}
 use Rattle.letters.specs.Letters.{digitOf}
 use borrow.Author.Needs.{needs}
 use Rattle.terms.proofs.read_decimal.Statement.{statement}
 use Rattle.terms.proofs.read_decimal.Tie as tie
-use Rattle.terms.proofs.read_decimal.Reads as reads
-use Rattle.terms.proofs.read_decimal.Lts as lts
-use Rattle.letters.proofs.byte_at.Reads as byte-at-reads
-use Rattle.letters.proofs.digit_of.Reads as digit-of-reads
-use Rattle.terms.proofs.read_digits.Reads as read-digits-reads
 
--- src/lib.rt:75:9
 read-digits-requires : tie.Need-read-digits-requires
 read-digits-requires c κs = search needs
 
---<H
 digit : (c : tie.After-digit-of) → c .digit-of .result ≡ digitOf (getD (c .before .before .before .before .before .args .s .now) (c .before .before .before .read-digits .result .next) 0)
 digit c = c .digit-of .ensures .0 ∙ ap digitOf (c .before .byte-at .ensures)
---H>
 
--- src/lib.rt:78:9
 returns : tie.Need-returns
 unfolding decimalAt
 returns c = rw (sym (c .before .read-digits .ensures .0), eq-eqb _ _ (c .if1 .taken))
 
--- src/lib.rt:80:26
 byte-at-requires : tie.Need-byte-at-requires
 byte-at-requires c κs = search needs
 
--- src/lib.rt:80:8
 digit-of-requires : tie.Need-digit-of-requires
 digit-of-requires c κs = search needs
 
--- src/lib.rt:81:9
 returns-2 : tie.Need-returns-2
 unfolding decimalAt
 returns-2 c = rw (sym (c .before .before .before .before .read-digits .ensures .0), ne-eqb _ _ (c .before .before .before .if1 .left), lt-ltb _ _ (rw (digit (c .before)) at (c .if2 .taken)))
 
--- src/lib.rt:83:18
 cast-t8 : tie.Need-cast-t8
 cast-t8 c = search needs
 
--- src/lib.rt:72:1
 returns-3 : tie.Need-returns-3
 unfolding decimalAt
 returns-3 c = rw (sym (c .before .before .before .before .before .read-digits .ensures .0), ne-eqb _ _ (c .before .before .before .before .if1 .left), le-ltb _ _ (rw (digit (c .before .before)) at (c .before .if2 .left)))

@@ -1,9 +1,10 @@
-use mathlib.Core.Bool.{true, false}
+-- `read_digits` meets its contract. The invariant: what is read from here on, behind the value so far, is what is read from the start.
+use mathlib.Core.Bool.{true}
 use native.Mathlib.Omega.{arith}
 use mathlib.Core.Path.{_≡_, refl, sym, ap, _∙_}
-use borrow.Author.Tests.{lt-ltb, le-ltb, le-leb, lt-leb, eq-eqb, ne-eqb, not-true, not-false}
-use Prim.Native.Nat.{ℕ, _+_, _-_, _*_, _≤_, _<_}
-use lib.ListN.{length, getD}
+use borrow.Author.Tests.{lt-ltb, le-ltb, le-leb, lt-leb}
+use Prim.Native.Nat.{_+_, _-_, _*_, _≤_}
+use lib.ListN.{getD}
 use borrow.Author.Needs.{needs}
 use Rattle.terms.specs.Terms.{digitAt, withDigit, digitsFrom}
 use Rattle.letters.specs.Letters.{digitOf}
@@ -11,11 +12,6 @@ use Rattle.letters.proofs.Laws.{inside-digit}
 use Rattle.terms.proofs.Laws.{digits-more, digits-over, digits-stop, digits-none}
 use Rattle.terms.proofs.read_digits.Statement.{statement}
 use Rattle.terms.proofs.read_digits.Tie as tie
-use Rattle.terms.proofs.read_digits.Reads as reads
-use Rattle.terms.proofs.read_digits.Lts as lts
-use Rattle.letters.proofs.byte_at.Reads as byte-at-reads
-use Rattle.letters.proofs.digit_of.Reads as digit-of-reads
-use Rattle.terms.proofs.appended.Reads as appended-reads
 
 abbrev Inv-loop : tie.InvT-loop
 Inv-loop s at base most value₀ i₀ left₀ value i left = (digitsFrom left base s i value ≡ digitsFrom most base s at 0) × (value ≤ 65535)
@@ -23,19 +19,15 @@ Inv-loop s at base most value₀ i₀ left₀ value i left = (digitsFrom left ba
 abbrev μ-loop : tie.MeasureT-loop
 μ-loop s at base most value₀ i₀ left₀ value i left = left
 
--- src/lib.rt:39:5
 loop-holds : tie.Need-loop-holds Inv-loop μ-loop
 loop-holds c = (refl, omega arith)
 
--- src/lib.rt:40:35
 byte-at-requires : tie.Need-byte-at-requires Inv-loop μ-loop
 byte-at-requires c κs = search needs
 
--- src/lib.rt:40:13
 digit-of-requires : tie.Need-digit-of-requires Inv-loop μ-loop
 digit-of-requires c κs = search needs
 
---<H
 -- the digit that was read, and the value with it
 digit : (c : tie.After-digit-of Inv-loop μ-loop) → c .digit-of .result ≡ digitOf (getD (c .before .before .before .before .before .args .s .now) (c .before .before .before .loop .i) 0)
 digit c = c .digit-of .ensures .0 ∙ ap digitOf (c .before .byte-at .ensures)
@@ -45,38 +37,29 @@ more c = c .appended .ensures ∙ ap (λ d. c .before .before .before .before .b
 
 there : (c : tie.Else1 Inv-loop μ-loop) → digitAt (c .before .before .before .before .before .before .args .base) (c .before .before .before .before .before .before .args .s .now) (c .before .before .before .before .loop .i) ≡ true
 there c = lt-ltb _ _ (rw (digit (c .before)) at (c .if1 .left))
---H>
 
--- src/lib.rt:42:13
 returns : tie.Need-returns Inv-loop μ-loop
 returns c = (sym (digits-stop (c .before .before .before .before .loop .left) (c .before .before .before .before .before .before .args .base) (c .before .before .before .before .before .before .args .s .now) (c .before .before .before .before .loop .i) (c .before .before .before .before .loop .value) (le-ltb _ _ (rw (digit (c .before)) at (c .if1 .taken)))) ∙ c .before .before .before .before .loop .inv .0, c .before .before .before .before .loop .inv .1)
 
--- src/lib.rt:47:13
 appended-requires : tie.Need-appended-requires Inv-loop μ-loop
 appended-requires c κs = omega arith
 
--- src/lib.rt:49:13
 returns-2 : tie.Need-returns-2 Inv-loop μ-loop
 returns-2 c = (sym (digits-over (c .before .before .before .before .before .before .loop .left) (c .before .before .before .before .before .before .before .before .args .base) (c .before .before .before .before .before .before .before .before .args .s .now) (c .before .before .before .before .before .before .loop .i) (c .before .before .before .before .before .before .loop .value) (lt-leb _ _ (rw (more (c .before)) at (c .if2 .taken)))) ∙ c .before .before .before .before .before .before .loop .inv .0, c .before .before .before .before .before .before .loop .inv .1)
 
--- src/lib.rt:55:9
 add-i : tie.Need-add-i Inv-loop μ-loop
 add-i c = omega (arith, inside-digit (c .before .before .before .before .before .before .before .before .args .s .now) (c .before .before .before .before .before .before .loop .i) (omega (arith, digit (c .before .before .before))))
 
--- src/lib.rt:56:9
 sub-left : tie.Need-sub-left Inv-loop μ-loop
 sub-left c = omega arith
 
--- src/lib.rt:39:5
 loop-less : tie.Need-loop-less Inv-loop μ-loop
 loop-less c = omega arith
 
--- src/lib.rt:39:5
 loop-again : tie.Need-loop-again Inv-loop μ-loop
 loop-again c = let is = more (c .before) in
     (ap (digitsFrom (c .before .before .before .before .before .before .loop .left - 1) (c .before .before .before .before .before .before .before .before .args .base) (c .before .before .before .before .before .before .before .before .args .s .now) (c .before .before .before .before .before .before .loop .i + 1)) is ∙ sym (digits-more (c .before .before .before .before .before .before .loop .left) (c .before .before .before .before .before .before .before .before .args .base) (c .before .before .before .before .before .before .before .before .args .s .now) (c .before .before .before .before .before .before .loop .i) (c .before .before .before .before .before .before .loop .value) (c .before .before .before .before .before .loop-test .taken) (there (c .before .before)) (le-leb _ _ (rw is at (c .if2 .left)))) ∙ c .before .before .before .before .before .before .loop .inv .0, c .if2 .left)
 
--- src/lib.rt:32:1
 returns-3 : tie.Need-returns-3 Inv-loop μ-loop
 returns-3 c = (sym (digits-none (c .before .loop .left) (c .before .before .before .args .base) (c .before .before .before .args .s .now) (c .before .loop .i) (c .before .loop .value) (omega arith)) ∙ c .before .loop .inv .0, c .before .loop .inv .1)
 

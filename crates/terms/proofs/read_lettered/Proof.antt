@@ -1,72 +1,50 @@
-use mathlib.Core.Bool.{true, false}
-use native.Mathlib.Omega.{arith}
-use mathlib.Core.Path.{_≡_, refl, sym, ap, _∙_}
+-- `read_lettered` meets its contract, by its tests.
 use Rattle.terms.specs.Terms.{letteredAt}
 use Rattle.letters.proofs.Laws.{is-byte, no-byte}
 use borrow.Author.Needs.{needs}
 use Rattle.terms.proofs.read_lettered.Statement.{statement}
 use Rattle.terms.proofs.read_lettered.Tie as tie
-use Rattle.terms.proofs.read_lettered.Reads as reads
-use Rattle.terms.proofs.read_lettered.Lts as lts
-use Rattle.letters.proofs.byte_at.Reads as byte-at-reads
-use Rattle.terms.proofs.read_binary.Reads as read-binary-reads
-use Rattle.terms.proofs.read_characters.Reads as read-characters-reads
-use Rattle.terms.proofs.read_hex.Reads as read-hex-reads
-use Rattle.terms.proofs.read_symbol.Reads as read-symbol-reads
 
--- src/lib.rt:182:9
 byte-at-requires : tie.Need-byte-at-requires
 byte-at-requires c κs = search needs
 
--- src/lib.rt:183:19
 add-byte-at : tie.Need-add-byte-at
 add-byte-at c = search needs
 
--- src/lib.rt:183:8
 byte-at-requires-2 : tie.Need-byte-at-requires-2
 byte-at-requires-2 c κs = search needs
 
--- src/lib.rt:184:9
 read-symbol-requires : tie.Need-read-symbol-requires
 read-symbol-requires c κs = search needs
 
--- src/lib.rt:184:9
 returns : tie.Need-returns
 unfolding letteredAt
 returns c = rw (no-byte (c .before .before .byte-at2 .ensures) (c .before .if1 .taken)) (c .read-symbol .ensures)
 
--- src/lib.rt:187:9
 read-hex-requires : tie.Need-read-hex-requires
 read-hex-requires c κs = search needs
 
--- src/lib.rt:187:9
 returns-2 : tie.Need-returns-2
 unfolding letteredAt
 returns-2 c = rw (is-byte (c .before .before .before .byte-at2 .ensures) (c .before .before .if1 .left), is-byte (c .before .before .before .before .byte-at .ensures) (c .before .if2 .taken)) (c .read-hex .ensures)
 
--- src/lib.rt:190:9
 read-binary-requires : tie.Need-read-binary-requires
 read-binary-requires c κs = search needs
 
--- src/lib.rt:190:9
 returns-3 : tie.Need-returns-3
 unfolding letteredAt
 returns-3 c = rw (is-byte (c .before .before .before .before .byte-at2 .ensures) (c .before .before .before .if1 .left), no-byte (c .before .before .before .before .before .byte-at .ensures) (c .before .before .if2 .left), is-byte (c .before .before .before .before .before .byte-at .ensures) (c .before .if3 .taken)) (c .read-binary .ensures)
 
--- src/lib.rt:193:9
 read-characters-requires : tie.Need-read-characters-requires
 read-characters-requires c κs = search needs
 
--- src/lib.rt:193:9
 returns-4 : tie.Need-returns-4
 unfolding letteredAt
 returns-4 c = rw (is-byte (c .before .before .before .before .before .byte-at2 .ensures) (c .before .before .before .before .if1 .left), no-byte (c .before .before .before .before .before .before .byte-at .ensures) (c .before .before .before .if2 .left), no-byte (c .before .before .before .before .before .before .byte-at .ensures) (c .before .before .if3 .left), is-byte (c .before .before .before .before .before .before .byte-at .ensures) (c .before .if4 .taken)) (c .read-characters .ensures)
 
--- src/lib.rt:195:5
 read-symbol-requires-2 : tie.Need-read-symbol-requires-2
 read-symbol-requires-2 c κs = search needs
 
--- src/lib.rt:178:1
 returns-5 : tie.Need-returns-5
 unfolding letteredAt
 returns-5 c = rw (is-byte (c .before .before .before .before .before .byte-at2 .ensures) (c .before .before .before .before .if1 .left), no-byte (c .before .before .before .before .before .before .byte-at .ensures) (c .before .before .before .if2 .left), no-byte (c .before .before .before .before .before .before .byte-at .ensures) (c .before .before .if3 .left), no-byte (c .before .before .before .before .before .before .byte-at .ensures) (c .before .if4 .left)) (c .read-symbol2 .ensures)

@@ -1,6 +1,6 @@
-use mathlib.Core.Bool.{true, false}
+-- `read_term` meets its contract, by the class of the character.
 use native.Mathlib.Omega.{arith}
-use mathlib.Core.Path.{_≡_, refl, sym, ap, _∙_}
+use mathlib.Core.Path.{_≡_, sym, ap, _∙_}
 use lib.ListN.{getD}
 use Rattle.terms.specs.Terms.{termAt}
 use Rattle.letters.specs.Letters.{classOf, isAccepted}
@@ -8,84 +8,60 @@ use Rattle.letters.proofs.Laws.{inside-accepted, is-byte, no-byte}
 use borrow.Author.Needs.{needs}
 use Rattle.terms.proofs.read_term.Statement.{statement}
 use Rattle.terms.proofs.read_term.Tie as tie
-use Rattle.terms.proofs.read_term.Reads as reads
-use Rattle.terms.proofs.read_term.Lts as lts
-use Rattle.letters.proofs.byte_at.Reads as byte-at-reads
-use Rattle.letters.proofs.class_of.Reads as class-of-reads
-use Rattle.terms.proofs.read_decimal.Reads as read-decimal-reads
-use Rattle.terms.proofs.read_lettered.Reads as read-lettered-reads
 
--- src/lib.rt:200:9
 byte-at-requires : tie.Need-byte-at-requires
 byte-at-requires c κs = search needs
 
--- src/lib.rt:201:11
 class-of-requires : tie.Need-class-of-requires
 class-of-requires c κs = search needs
 
--- src/lib.rt:202:26
 enum-told : tie.Need-enum-told
 enum-told c = search needs
 
---<H
 class : (c : tie.After-class-of) → c .class-of .result ≡ classOf (getD (c .before .before .before .args .s .now) (c .before .before .before .args .at) 0)
 class c = c .class-of .ensures ∙ ap classOf (c .before .byte-at .ensures)
---H>
 
--- src/lib.rt:202:26
 read-lettered-requires : tie.Need-read-lettered-requires
 read-lettered-requires c κs = omega (arith, inside-accepted (c .before .before .before .before .before .args .s .now) (c .before .before .before .before .before .args .at) (ap isAccepted (sym (class (c .before .before)) ∙ c .enum-told .given .1)))
 
--- src/lib.rt:203:25
 enum-told-2 : tie.Need-enum-told-2
 enum-told-2 c = search needs
 
--- src/lib.rt:203:25
 read-decimal-requires : tie.Need-read-decimal-requires
 read-decimal-requires c κs = search needs
 
--- src/lib.rt:205:16
 enum-told-3 : tie.Need-enum-told-3
 enum-told-3 c = search needs
 
--- src/lib.rt:206:28
 add-t8 : tie.Need-add-t8
 add-t8 c = omega (arith, inside-accepted (c .before .before .before .before .before .before .args .s .now) (c .before .before .before .before .before .before .args .at) (ap isAccepted (sym (class (c .before .before .before)) ∙ c .before .enum-told3 .given .1)))
 
--- src/lib.rt:211:25
 enum-told-4 : tie.Need-enum-told-4
 enum-told-4 c = search needs
 
--- src/lib.rt:212:27
 enum-told-5 : tie.Need-enum-told-5
 enum-told-5 c = search needs
 
--- src/lib.rt:197:1
 returns : tie.Need-returns
 unfolding termAt
 returns c = rw (sym (class (c .before .before .before)), c .before .enum-told .given .1) (c .read-lettered .ensures)
 
--- src/lib.rt:197:1
 returns-2 : tie.Need-returns-2
 unfolding termAt
 returns-2 c = rw (sym (class (c .before .before .before)), c .before .enum-told2 .given .1) (c .read-decimal .ensures)
 
--- src/lib.rt:197:1
 returns-3 : tie.Need-returns-3
 unfolding termAt
 returns-3 c = rw (sym (class (c .before .before .before)), c .before .enum-told3 .given .1, is-byte (c .before .before .before .before .byte-at .ensures) (c .if1 .taken))
 
--- src/lib.rt:197:1
 returns-4 : tie.Need-returns-4
 unfolding termAt
 returns-4 c = rw (sym (class (c .before .before .before)), c .before .enum-told3 .given .1, no-byte (c .before .before .before .before .byte-at .ensures) (c .if1 .left))
 
--- src/lib.rt:197:1
 returns-5 : tie.Need-returns-5
 unfolding termAt
 returns-5 c = rw (sym (class (c .before .before)), c .enum-told4 .given .1)
 
--- src/lib.rt:197:1
 returns-6 : tie.Need-returns-6
 unfolding termAt
 returns-6 c = rw (sym (class (c .before .before)), c .enum-told5 .given .1)

@@ -1,79 +1,58 @@
-use mathlib.Core.Bool.{true, false}
+-- `names::name_number` meets its contract: six codes, base 256.
 use native.Mathlib.Omega.{arith}
-use mathlib.Core.Path.{_≡_, refl, sym, ap, _∙_}
 use Rattle.terms.specs.Names.{nameNumber}
 use borrow.Author.Needs.{needs}
 use Rattle.terms.proofs.names.name_number.Statement.{statement}
 use Rattle.terms.proofs.names.name_number.Tie as tie
-use Rattle.terms.proofs.names.name_number.Reads as reads
-use Rattle.terms.proofs.names.name_number.Lts as lts
-use Rattle.terms.proofs.names.name_byte.Reads as name-byte-reads
 
--- src/names.rt:52:9
 name-byte-requires : tie.Need-name-byte-requires
 name-byte-requires c κs = search needs
 
--- src/names.rt:53:9
 name-byte-requires-2 : tie.Need-name-byte-requires-2
 name-byte-requires-2 c κs = search needs
 
--- src/names.rt:54:9
 name-byte-requires-3 : tie.Need-name-byte-requires-3
 name-byte-requires-3 c κs = search needs
 
--- src/names.rt:55:9
 name-byte-requires-4 : tie.Need-name-byte-requires-4
 name-byte-requires-4 c κs = search needs
 
--- src/names.rt:56:9
 name-byte-requires-5 : tie.Need-name-byte-requires-5
 name-byte-requires-5 c κs = search needs
 
--- src/names.rt:57:9
 name-byte-requires-6 : tie.Need-name-byte-requires-6
 name-byte-requires-6 c κs = search needs
 
--- src/names.rt:58:9
 mul-result : tie.Need-mul-result
 mul-result c = search needs
 
--- src/names.rt:58:9
 add-result : tie.Need-add-result
 add-result c = search needs
 
--- src/names.rt:58:8
 mul-result-2 : tie.Need-mul-result-2
 mul-result-2 c = search needs
 
--- src/names.rt:58:8
 add-result-2 : tie.Need-add-result-2
 add-result-2 c = search needs
 
--- src/names.rt:58:7
 mul-result-3 : tie.Need-mul-result-3
 mul-result-3 c = search needs
 
--- src/names.rt:58:7
 add-result-3 : tie.Need-add-result-3
 add-result-3 c = search needs
 
--- src/names.rt:58:6
 mul-result-4 : tie.Need-mul-result-4
 mul-result-4 c = search needs
 
--- src/names.rt:58:6
 add-result-4 : tie.Need-add-result-4
 add-result-4 c = search needs
 
--- src/names.rt:58:5
 mul-result-5 : tie.Need-mul-result-5
 mul-result-5 c = search needs
 
--- src/names.rt:58:5
 add-result-5 : tie.Need-add-result-5
 add-result-5 c = search needs
 
--- src/names.rt:48:1
 returns : tie.Need-returns
 unfolding nameNumber
 returns c = omega arith

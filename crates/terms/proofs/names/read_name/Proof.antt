@@ -1,67 +1,48 @@
-use mathlib.Core.Bool.{true, false}
+-- `names::read_name` meets its contract, by its two tests.
 use native.Mathlib.Omega.{arith}
-use mathlib.Core.Path.{_≡_, refl, sym, ap, _∙_}
-use borrow.Author.Tests.{lt-ltb, le-ltb, le-leb, lt-leb, eq-eqb, ne-eqb, not-true, not-false}
-use Rattle.terms.specs.declared.names.Name.{Name}
-use Rattle.terms.specs.declared.names.Name.the-variants.{Named, NoName}
+use mathlib.Core.Path.{_≡_, sym, ap, _∙_}
+use borrow.Author.Tests.{not-true, not-false}
+use Rattle.terms.specs.declared.names.Name.the-variants.{Named}
 use Rattle.terms.specs.Names.{startsAt, goesOnAt, nameAt}
 use Rattle.letters.specs.Letters.{startsName, goesOnName}
 use Rattle.terms.proofs.Laws.{inside-start}
 use borrow.Author.Needs.{needs}
 use Rattle.terms.proofs.names.read_name.Statement.{statement}
 use Rattle.terms.proofs.names.read_name.Tie as tie
-use Rattle.terms.proofs.names.read_name.Reads as reads
-use Rattle.terms.proofs.names.read_name.Lts as lts
-use Rattle.letters.proofs.class_at.Reads as class-at-reads
-use Rattle.letters.proofs.goes_on_name.Reads as goes-on-name-reads
-use Rattle.letters.proofs.starts_name.Reads as starts-name-reads
-use Rattle.terms.proofs.names.name_end.Reads as name-end-reads
-use Rattle.terms.proofs.names.name_number.Reads as name-number-reads
 
--- src/names.rt:64:30
 class-at-requires : tie.Need-class-at-requires
 class-at-requires c κs = search needs
 
--- src/names.rt:64:9
 starts-name-requires : tie.Need-starts-name-requires
 starts-name-requires c κs = search needs
 
---<H
 -- the tests are whether a name starts, and whether it goes on behind its six characters
 starting : (c : tie.After-starts-name) → c .starts-name .result ≡ startsAt (c .before .before .before .args .s .now) (c .before .before .before .args .at)
 starting c = c .starts-name .ensures ∙ ap startsName (c .before .class-at .ensures)
 
 going : (c : tie.After-goes-on-name) → c .goes-on-name .result ≡ goesOnAt (c .before .before .before .before .before .before .before .args .s .now) (c .before .before .name-end .result)
 going c = c .goes-on-name .ensures ∙ ap goesOnName (c .before .class-at2 .ensures)
---H>
 
--- src/names.rt:65:9
 returns : tie.Need-returns
 unfolding nameAt
 returns c = rw (sym (starting (c .before)) ∙ not-true _ (c .if1 .taken))
 
--- src/names.rt:67:9
 name-end-requires : tie.Need-name-end-requires
 name-end-requires c κs = omega (arith, inside-start (c .before .before .before .before .args .s .now) (c .before .before .before .before .args .at) (sym (starting (c .before)) ∙ not-false _ (c .if1 .left)))
 
--- src/names.rt:68:30
 class-at-requires-2 : tie.Need-class-at-requires-2
 class-at-requires-2 c κs = search needs
 
--- src/names.rt:68:8
 goes-on-name-requires : tie.Need-goes-on-name-requires
 goes-on-name-requires c κs = search needs
 
--- src/names.rt:69:9
 returns-2 : tie.Need-returns-2
 unfolding nameAt
 returns-2 c = rw (sym (starting (c .before .before .before .before .before)) ∙ not-false _ (c .before .before .before .before .if1 .left), sym (c .before .before .before .name-end .ensures .0), sym (going (c .before)) ∙ c .if2 .taken)
 
--- src/names.rt:71:17
 name-number-requires : tie.Need-name-number-requires
 name-number-requires c κs = search needs
 
--- src/names.rt:61:1
 returns-3 : tie.Need-returns-3
 unfolding nameAt
 returns-3 c = rw (sym (starting (c .before .before .before .before .before .before)) ∙ not-false _ (c .before .before .before .before .before .if1 .left), sym (c .before .before .before .before .name-end .ensures .0), sym (going (c .before .before)) ∙ c .before .if2 .left) (ap (λ n. Named n (c .before .before .before .before .name-end .result)) (c .name-number .ensures))
