@@ -1,5 +1,6 @@
 -- The table and the classes are those of document 01, by one computed test over all 256 bytes; and what readers of columns cite.
 use Prim.Native.Nat.{ℕ, zero, suc, _+_, _-_, _≤_, _<_}
+use Prim.Native.String.{String, [] as none, _∷_ as _then_}
 use mathlib.Core.List.{List, [], _∷_}
 use mathlib.Core.Path.{_≡_, refl, sym, ap, _∙_}
 use mathlib.Core.Bool.{Bool, true, false}
@@ -7,9 +8,9 @@ use native.Mathlib.Decide.{decLe}
 use native.Mathlib.Omega.{arith}
 use lib.Dec.{eqb, ltb}
 use lib.ListN.{length, getD, List·getD-eq-default}
-use borrow.Author.Tests.{eqb-true, eq-eqb, ne-eqb, ltb-true}
+use borrow.Author.Tests.{eqb-true, eq-eqb, ne-eqb, ltb-true, le-leb, lt-leb}
 use Rattle.values.specs.Tests.{pick, both}
-use Rattle.letters.specs.Text.{bytes, isOneOf, isFromTo}
+use Rattle.letters.specs.Text.{byte, isOneOf, isFromTo}
 use Rattle.letters.specs.Letters.{classOf, startsName, goesOnName, isAccepted, codedFrom, listed, codeIn, codeOf, digitOf}
 use Rattle.letters.specs.Table.{table, placeOf}
 use Rattle.letters.specs.declared.Class.{Class}
@@ -72,11 +73,16 @@ readCode b = pick (eqb (pairAt (placeOf b) .0) b) (pairAt (placeOf b) .1) 0
 abbrev pub once : ℕ → ℕ
 once b = pick (isAccepted (classOf b)) 1 0
 
+-- a byte is accepted exactly where it has a code
+abbrev pub agrees : ℕ → Bool
+agrees b = pick (isAccepted (classOf b)) (ltb 0 (codeOf b)) (eqb (codeOf b) 0)
+
 -- each accepted byte stands in the table once and no other does, as in document 01's list; its code is that of the list, wherever it is looked for
 unfoldable pub right : ℕ → Bool
 right b =
     both (eqb (times table b) (once b))
-    (both (eqb (times listed b) (once b)) (both (eqb (codeIn table b) (codeOf b)) (eqb (readCode b) (codeOf b))))
+    (both (eqb (times listed b) (once b))
+    (both (eqb (codeIn table b) (codeOf b)) (both (eqb (readCode b) (codeOf b)) (agrees b))))
 
 right-everywhere : every right 0 256 ≡ true
 unfolding every right times table listed codedFrom codeIn codeOf placeOf classOf isOneOf isFromTo
@@ -95,7 +101,7 @@ module _ (b : ℕ) (small : b < 256) where
   listed-once =
       eqb-true _ _ (both-left (eqb (times listed b) (once b)) _ (both-right (eqb (times table b) (once b)) _ all))
 
-  rest : both (eqb (codeIn table b) (codeOf b)) (eqb (readCode b) (codeOf b)) ≡ true
+  rest : both (eqb (codeIn table b) (codeOf b)) (both (eqb (readCode b) (codeOf b)) (agrees b)) ≡ true
   unfolding right
   rest = both-right (eqb (times listed b) (once b)) _ (both-right (eqb (times table b) (once b)) _ all)
 
@@ -103,7 +109,11 @@ module _ (b : ℕ) (small : b < 256) where
   table-code = eqb-true _ _ (both-left (eqb (codeIn table b) (codeOf b)) _ rest)
 
   read-code : readCode b ≡ codeOf b
-  read-code = eqb-true _ _ (both-right (eqb (codeIn table b) (codeOf b)) (eqb (readCode b) (codeOf b)) rest)
+  read-code =
+      eqb-true _ _ (both-left (eqb (readCode b) (codeOf b)) (agrees b) (both-right (eqb (codeIn table b) (codeOf b)) _ rest))
+
+  pub class-agrees : agrees b ≡ true
+  class-agrees = both-right (eqb (readCode b) (codeOf b)) (agrees b) (both-right (eqb (codeIn table b) (codeOf b)) _ rest)
 
   -- the pair at a byte's place has the byte: its code is the byte's; or it has another byte, and the byte has no code
   pub code-there : (i : ℕ) → i ≡ placeOf b → pairAt i .0 ≡ b → pairAt i .1 ≡ codeOf b
@@ -172,3 +182,31 @@ is-byte e t = eq-eqb _ _ (sym e ∙ t)
 
 pub no-byte : {r b k : ℕ} → r ≡ b → (r ≡ k → ⊥) → eqb b k ≡ false
 no-byte e t = ne-eqb _ _ (λ q. t (e ∙ q))
+
+-- ACCEPTED BYTES HAVE A CODE
+
+-- behind all characters of a text
+text-below : ℕ → String → Bool
+text-below n none = true
+text-below n (c then s) = both (ltb (byte c) n) (text-below n s)
+
+past-text : (n : ℕ) (s : String) (b : ℕ) → text-below n s ≡ true → n ≤ b → isOneOf s b ≡ false
+unfolding text-below isOneOf
+past-text n none b e h = refl
+past-text n (c then s) b e h =
+    let below : byte c < n = ltb-true (byte c) n (both-left (ltb (byte c) n) (text-below n s) e) in
+    rw (ne-eqb b (byte c) (λ q. omega arith)) (past-text n s b (both-right (ltb (byte c) n) (text-below n s) e) h)
+
+-- behind | nothing is accepted
+pub class-past : (b : ℕ) → 125 ≤ b → classOf b ≡ Refused
+unfolding classOf isFromTo text-below
+class-past b h =
+    rw
+    (le-leb 65 b (omega arith), lt-leb b 90 (omega arith), past-text 125 "$#@" b refl h, le-leb 48 b (omega arith), lt-leb b 57 (omega arith), ne-eqb b 32 (λ e. omega arith), past-text 125 ".<(+|&!*);-/,%_>?:'=\"" b refl h)
+
+pub code-positive : (b : ℕ) → isAccepted (classOf b) ≡ true → 0 < codeOf b
+code-positive b e =
+    elim (decLe 125 b) [
+      | yes past ↦ let f : isAccepted Refused ≡ true = ap isAccepted (sym (class-past b past)) ∙ e in let q : _≡_ {A = ℕ} 0 1 = cc in absurd (omega arith)
+      | no within ↦ ltb-true 0 (codeOf b) (rw e at (class-agrees b (omega arith)))
+    ]

@@ -35,6 +35,13 @@ goesOnName Sign = false
 goesOnName Blank = false
 goesOnName Refused = false
 
+abbrev pub isBlank : Class → Bool
+isBlank Letter = false
+isBlank Digit = false
+isBlank Sign = false
+isBlank Blank = true
+isBlank Refused = false
+
 -- an accepted byte
 abbrev pub isAccepted : Class → Bool
 isAccepted Letter = true

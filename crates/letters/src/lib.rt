@@ -2,7 +2,7 @@
 ghost use mathlib.Core.Path.{_≡_};
 ghost use Prim.Native.Nat.{_<_, _≤_};
 ghost use lib.ListN.{getD};
-ghost use Rattle.letters.specs.Letters.{classOf, codeOf, digitOf, startsName, goesOnName, isAccepted};
+ghost use Rattle.letters.specs.Letters.{classOf, codeOf, digitOf, startsName, goesOnName, isBlank, isAccepted};
 ghost use Rattle.letters.specs.Table.{placeOf};
 
 pub enum Class {
@@ -146,6 +146,18 @@ pub fn goes_on_name(c: Class) -> bool
         Class::Digit => true,
         Class::Sign => false,
         Class::Blank => false,
+        Class::Refused => false,
+    }
+}
+
+pub fn is_blank(c: Class) -> bool
+    ensures { λ r. ⌜ r ≡ isBlank c ⌝ }
+{
+    match c {
+        Class::Letter => false,
+        Class::Digit => false,
+        Class::Sign => false,
+        Class::Blank => true,
         Class::Refused => false,
     }
 }

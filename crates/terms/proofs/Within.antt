@@ -5,7 +5,8 @@ use mathlib.Core.Path.{_≡_, refl, sym, ap, _∙_, subst}
 use mathlib.Core.Bool.{Bool, true, false}
 use native.Mathlib.Decide.{decLe}
 use native.Mathlib.Omega.{arith}
-use borrow.Author.Tests.{ltb-true, leb-true, eqb-true, eqb-false, ltb-false}
+use native.Mathlib.Nat.{add-zero}
+use borrow.Author.Tests.{ltb-true, leb-true, eqb-true, eqb-false, lt-ltb}
 use lib.Dec.{ltb, leb, eqb}
 use lib.ListN.{length, getD}
 use Rattle.values.specs.Tests.{pick}
@@ -13,7 +14,7 @@ use Rattle.letters.specs.Text.{byte, is}
 use Rattle.letters.specs.Letters.{classOf, isAccepted, codeOf, digitOf}
 use Rattle.letters.specs.declared.Class.{Class}
 use Rattle.letters.specs.declared.Class.the-variants.{Letter, Digit, Sign, Blank, Refused}
-use Rattle.letters.proofs.Laws.{inside, inside-accepted, inside-digit, code-below, start-goes-on}
+use Rattle.letters.proofs.Laws.{inside, inside-accepted, inside-digit, code-below, code-positive, name-accepted, start-goes-on}
 use Rattle.terms.specs.declared.Digits.{Digits}
 use Rattle.terms.specs.declared.names.Name.{Name}
 use Rattle.terms.specs.declared.names.Name.the-variants.{Named, NoName}
@@ -85,6 +86,10 @@ number-below s at end =
     let f = name-byte-below s at end 5 in
     omega arith
 
+number-positive : (s : List ℕ) (at end : ℕ) → 0 < nameByte s at end 0 → 0 < nameNumber s at end
+unfolding nameNumber
+number-positive s at end h = omega arith
+
 -- names with one number have the same six codes: no character is left out
 pub same-codes : (s : List ℕ) (at end : ℕ) (t : List ℕ) (from to : ℕ) → nameNumber s at end ≡ nameNumber t from to
     → (k : ℕ) → k < 6 → nameByte s at end k ≡ nameByte t from to k
@@ -138,6 +143,25 @@ name-within s at = go (startsAt s at) refl
     go : (x : Bool) → startsAt s at ≡ x → NameWithin s at (pick x (nameUpTo s at (nameEnd 6 s at)) (NoName at))
     go true e = up (goesOnAt s (nameEnd 6 s at)) (nameEnd 6 s at) (end-behind s at e) (end-within 6 s at .2 (end-behind s at e))
     go false e = (omega arith, λ l. l)
+
+-- no name has the number 0, which says that there is none
+pub name-positive : (s : List ℕ) (at n next : ℕ) → nameAt s at ≡ Named n next → 0 < n
+unfolding nameAt nameByte
+name-positive s at n next e = go (startsAt s at) refl e
+  where
+    first : at < nameEnd 6 s at → isAccepted (classOf (getD s at 0)) ≡ true → 0 < nameByte s at (nameEnd 6 s at) 0
+    first h a = rw (add-zero, lt-ltb at (nameEnd 6 s at) h) (code-positive (getD s at 0) a)
+
+    up : (x : Bool) (end : ℕ) → 0 < nameByte s at end 0 → pick x (NoName end) (Named (nameNumber s at end) end) ≡ Named n next → 0 < n
+    up true end h q = let z : _≡_ {A = ℕ} 0 1 = cc in absurd (omega arith)
+    up false end h q = let f : n ≡ nameNumber s at end = cc in rw f (number-positive s at end h)
+
+    go : (x : Bool) → startsAt s at ≡ x → pick x (nameUpTo s at (nameEnd 6 s at)) (NoName at) ≡ Named n next → 0 < n
+    go true f q =
+        up (goesOnAt s (nameEnd 6 s at)) (nameEnd 6 s at)
+        (first (end-behind s at f) (name-accepted (classOf (getD s at 0)) (start-goes-on (classOf (getD s at 0)) f)))
+        q
+    go false f q = let z : _≡_ {A = ℕ} 0 1 = cc in absurd (omega arith)
 
 -- NUMBERS
 
