@@ -16,8 +16,8 @@ use Rattle.letters.specs.Letters.{classOf, isBlank, isAccepted}
 use Rattle.terms.specs.Terms.{stands}
 use Rattle.cards.specs.Source.{columnsOf, cardsFrom}
 use Rattle.terms.specs.Names.{nameAt}
-use Rattle.terms.specs.declared.names.Name.{Name}
-use Rattle.terms.specs.declared.names.Name.the-variants.{Named, NoName}
+use Rattle.terms.specs.declared.naming.Name.{Name}
+use Rattle.terms.specs.declared.naming.Name.the-variants.{Named, NoName}
 use Rattle.terms.proofs.Within.{NameWithin, name-within}
 use Rattle.cards.specs.declared.Fields.{Fields}
 use Rattle.cards.specs.declared.Card.{Card}

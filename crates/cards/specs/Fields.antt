@@ -7,8 +7,8 @@ use lib.ListN.{length, getD}
 use lib.Dec.{leb, eqb}
 use Rattle.values.specs.Tests.{pick, both, either}
 use Rattle.letters.specs.Letters.{classOf, isBlank, isAccepted}
-use Rattle.terms.specs.declared.names.Name.{Name}
-use Rattle.terms.specs.declared.names.Name.the-variants.{Named, NoName}
+use Rattle.terms.specs.declared.naming.Name.{Name}
+use Rattle.terms.specs.declared.naming.Name.the-variants.{Named, NoName}
 use Rattle.terms.specs.Names.{nameAt}
 use Rattle.terms.specs.Terms.{stands}
 use Rattle.cards.specs.declared.Fields.{Fields}

@@ -3,7 +3,7 @@ pub mod source;
 
 use letters::byte_at;
 use letters::class_at;
-use terms::names::Name;
+use terms::naming::Name;
 ghost use mathlib.Core.Path.{_≡_};
 ghost use mathlib.Core.Bool.{false, not};
 ghost use Prim.Native.Nat.{_-_, _≤_};
@@ -153,7 +153,7 @@ fn name_ends(s: &[u8], at: usize) -> bool
 fn read_named(s: &[u8]) -> Card
     ensures { λ r. ⌜ r ≡ namedCard (now (s .entry)) (nameAt (now (s .entry)) 0) ⌝ }
 {
-    match terms::names::read_name(s, 0) {
+    match terms::naming::read_name(s, 0) {
         Name::Named(number, next) => {
             if name_ends(s, next) {
                 Card::Statement(read_fields(s, number, next))

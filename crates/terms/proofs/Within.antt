@@ -16,8 +16,8 @@ use Rattle.letters.specs.declared.Class.{Class}
 use Rattle.letters.specs.declared.Class.the-variants.{Letter, Digit, Sign, Blank, Refused}
 use Rattle.letters.proofs.Laws.{inside, inside-accepted, inside-digit, code-below, code-positive, name-accepted, start-goes-on}
 use Rattle.terms.specs.declared.Digits.{Digits}
-use Rattle.terms.specs.declared.names.Name.{Name}
-use Rattle.terms.specs.declared.names.Name.the-variants.{Named, NoName}
+use Rattle.terms.specs.declared.naming.Name.{Name}
+use Rattle.terms.specs.declared.naming.Name.the-variants.{Named, NoName}
 use Rattle.terms.specs.declared.Quoted.{Quoted}
 use Rattle.terms.specs.declared.Quoted.the-variants.{One, Closed, Nothing}
 use Rattle.terms.specs.declared.Term.{Term}

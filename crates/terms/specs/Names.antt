@@ -6,8 +6,8 @@ use lib.ListN.{getD}
 use lib.Dec.{ltb}
 use Rattle.values.specs.Tests.{pick}
 use Rattle.letters.specs.Letters.{classOf, startsName, goesOnName, codeOf}
-use Rattle.terms.specs.declared.names.Name.{Name}
-use Rattle.terms.specs.declared.names.Name.the-variants.{Named, NoName}
+use Rattle.terms.specs.declared.naming.Name.{Name}
+use Rattle.terms.specs.declared.naming.Name.the-variants.{Named, NoName}
 
 -- "A name starts with a letter or $ # @": a name may start at a position
 abbrev pub startsAt : List ℕ → ℕ → Bool

@@ -14,8 +14,8 @@ use Rattle.terms.specs.Names.{nameAt}
 use Rattle.terms.specs.declared.Digits.{Digits}
 use Rattle.terms.specs.declared.Quoted.{Quoted}
 use Rattle.terms.specs.declared.Quoted.the-variants.{One, Closed, Nothing}
-use Rattle.terms.specs.declared.names.Name.{Name}
-use Rattle.terms.specs.declared.names.Name.the-variants.{Named, NoName}
+use Rattle.terms.specs.declared.naming.Name.{Name}
+use Rattle.terms.specs.declared.naming.Name.the-variants.{Named, NoName}
 use Rattle.terms.specs.declared.Term.{Term}
 use Rattle.terms.specs.declared.Term.the-variants.{Number, Symbol, Here, Bad}
 

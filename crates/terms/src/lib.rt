@@ -1,9 +1,9 @@
 // A term at a position of a card, and the name at a position. Positions count from 0, and past the end nothing stands.
-pub mod names;
+pub mod naming;
 
 use letters::Class;
 use letters::byte_at;
-use names::Name;
+use naming::Name;
 ghost use mathlib.Core.Path.{_≡_};
 ghost use Prim.Native.Nat.{_+_, _*_, _^_, _≤_, _<_};
 ghost use Rattle.terms.specs.Terms.{digitsFrom, decimalAt, closedAt, numeralAt, hexAt, binaryAt, quotedAt, secondOf, charactersAt, symbolAt, letteredAt, termAt};
@@ -168,7 +168,7 @@ fn read_characters(s: &[u8], at: usize) -> Term
 fn read_symbol(s: &[u8], at: usize) -> Term
     ensures { λ r. ⌜ r ≡ symbolAt (now (s .entry)) at ⌝ }
 {
-    match names::read_name(s, at) {
+    match naming::read_name(s, at) {
         Name::Named(number, next) => Term::Symbol(number, next),
         Name::NoName(end) => Term::Bad(end),
     }

@@ -1,9 +1,9 @@
--- `names::name_number` meets its contract: six codes, base 256.
+-- `naming::name_number` meets its contract: six codes, base 256.
 use native.Mathlib.Omega.{arith}
 use Rattle.terms.specs.Names.{nameNumber}
 use borrow.Author.Needs.{needs}
-use Rattle.terms.proofs.names.name_number.Statement.{statement}
-use Rattle.terms.proofs.names.name_number.Tie as tie
+use Rattle.terms.proofs.naming.name_number.Statement.{statement}
+use Rattle.terms.proofs.naming.name_number.Tie as tie
 
 name-byte-requires : tie.Need-name-byte-requires
 name-byte-requires c κs = search needs

@@ -1,4 +1,4 @@
--- `names::name_end` meets its contract. The invariant: the end from here, with the characters left, is the end from the start.
+-- `naming::name_end` meets its contract. The invariant: the end from here, with the characters left, is the end from the start.
 use mathlib.Core.Bool.{true}
 use native.Mathlib.Omega.{arith}
 use mathlib.Core.Path.{_≡_, refl, sym, ap, _∙_}
@@ -9,8 +9,8 @@ use borrow.Author.Needs.{needs}
 use Rattle.terms.specs.Names.{goesOnAt, nameEnd}
 use Rattle.letters.specs.Letters.{goesOnName}
 use Rattle.terms.proofs.Laws.{end-more, end-stop, end-none, inside-name}
-use Rattle.terms.proofs.names.name_end.Statement.{statement}
-use Rattle.terms.proofs.names.name_end.Tie as tie
+use Rattle.terms.proofs.naming.name_end.Statement.{statement}
+use Rattle.terms.proofs.naming.name_end.Tie as tie
 
 abbrev Inv-loop : tie.InvT-loop
 Inv-loop s at i₀ left₀ i left = (nameEnd left s i ≡ nameEnd 6 s at) × (at ≤ i) × (i ≤ length s)

@@ -1,14 +1,14 @@
--- `names::read_name` meets its contract, by its two tests.
+-- `naming::read_name` meets its contract, by its two tests.
 use native.Mathlib.Omega.{arith}
 use mathlib.Core.Path.{_≡_, sym, ap, _∙_}
 use borrow.Author.Tests.{not-true, not-false}
-use Rattle.terms.specs.declared.names.Name.the-variants.{Named}
+use Rattle.terms.specs.declared.naming.Name.the-variants.{Named}
 use Rattle.terms.specs.Names.{startsAt, goesOnAt, nameAt}
 use Rattle.letters.specs.Letters.{startsName, goesOnName}
 use Rattle.terms.proofs.Laws.{inside-start}
 use borrow.Author.Needs.{needs}
-use Rattle.terms.proofs.names.read_name.Statement.{statement}
-use Rattle.terms.proofs.names.read_name.Tie as tie
+use Rattle.terms.proofs.naming.read_name.Statement.{statement}
+use Rattle.terms.proofs.naming.read_name.Tie as tie
 
 class-at-requires : tie.Need-class-at-requires
 class-at-requires c κs = search needs

@@ -1,12 +1,12 @@
--- `names::name_byte` meets its contract.
+-- `naming::name_byte` meets its contract.
 use native.Mathlib.Omega.{arith}
 use mathlib.Core.Path.{ap, _∙_}
 use borrow.Author.Tests.{lt-ltb, le-ltb}
 use Rattle.terms.specs.Names.{nameByte}
 use Rattle.letters.specs.Letters.{codeOf}
 use borrow.Author.Needs.{needs}
-use Rattle.terms.proofs.names.name_byte.Statement.{statement}
-use Rattle.terms.proofs.names.name_byte.Tie as tie
+use Rattle.terms.proofs.naming.name_byte.Statement.{statement}
+use Rattle.terms.proofs.naming.name_byte.Tie as tie
 
 add-if1 : tie.Need-add-if1
 add-if1 c = search needs
