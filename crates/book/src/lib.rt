@@ -46,7 +46,6 @@ pub enum Layout {
 
 // Offsets that ascend by at least 2, each with its two bytes inside a text of `size` bytes.
 pub fn fields_fit(offsets: &[u8], size: usize) -> bool
-    requires { ⌜ size < 65536 ⌝ }
     ensures { λ r. ⌜ r ≡ fieldsFit 0 size (now (offsets .entry)) ⌝ }
 {
     let mut least = 0;
@@ -130,7 +129,7 @@ impl Cursor {
 }
 
 // The header alone: it says nothing of the records.
-pub fn read_header(book: &[u8]) -> Layout
+fn read_header(book: &[u8]) -> Layout
     ensures { λ r. ⌜ r ≡ headerOf (now (book .entry)) ⌝ }
 {
     if book.len() < 8 {
