@@ -16,7 +16,7 @@ use Rattle.expressions.specs.declared.form.Form.the-variants.{Ends, Fails}
 use Rattle.expressions.specs.declared.Wanted.the-variants.{Any}
 use Rattle.expressions.specs.declared.Evaluated.{Evaluated}
 use Rattle.expressions.specs.declared.Evaluated.the-variants.{Good, Malformed, Undefined, WrongKind, OutOfRange}
-use Rattle.expressions.specs.Form.{formOf, expressionAt}
+use Rattle.expressions.specs.Form.{formOf, formNo, expressionAt}
 use Rattle.expressions.specs.Value.{evaluated, refusalFor}
 
 -- what comes of a row
@@ -45,7 +45,7 @@ answerOf (OutOfRange k) = refused (refusalFor Any (OutOfRange k))
 -- 15 where the text goes on behind the expression
 abbrev pub wholeOf : ℕ → Form → Answer → Answer
 wholeOf n (Ends q) answer = pick (eqb q n) answer (refused 15)
-wholeOf n (Fails q) answer = refused 15
+wholeOf n (Fails q) answer = refused (formNo (Fails q))
 
 abbrev pub expressionAnswer : List ℕ → List Name → Answer
 expressionAnswer s names = wholeOf (length s) (formOf (expressionAt s 0)) (answerOf (evaluated (find names) 0 (expressionAt s 0)))

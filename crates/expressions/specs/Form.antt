@@ -34,6 +34,11 @@ abbrev pub formOf : {X : Type 0} → Read X → Form
 formOf (upTo x q) = Ends q
 formOf (fails q) = Fails q
 
+-- 15: "operand not of its form"
+abbrev pub formNo : Form → ℕ
+formNo (Ends q) = 0
+formNo (Fails q) = 15
+
 -- the position behind a term, or the one at which it fails
 abbrev pub endOf : Term → Form
 endOf (Number v q) = Ends q
