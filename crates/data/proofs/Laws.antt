@@ -1,0 +1,1 @@
+-- Laws of runs of digits, values and operands.
