@@ -1,1 +1,0 @@
--- Laws of runs of digits, values and operands.
