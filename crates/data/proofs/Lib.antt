@@ -2,3 +2,4 @@
 mod Turns
 pub mod Within
 pub mod Fine
+pub mod Texts

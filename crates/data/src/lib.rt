@@ -3,6 +3,7 @@
 pub mod head;
 pub mod runs;
 pub mod sizes;
+pub mod text;
 pub mod value;
 
 use head::Head;
