@@ -9,10 +9,10 @@ use Rattle.expressions.specs.Form.{formOf, expressionAt}
 use Rattle.forms.specs.declared.Item.{Item}
 use Rattle.forms.specs.declared.Item.the-variants.{Absent, At}
 use Rattle.forms.specs.declared.Address.{Address}
-use Rattle.forms.specs.declared.address.Written.{Written}
-use Rattle.forms.specs.declared.address.Written.the-variants.{MayHaveLength, HasLength, NoLength, OnlyRegister}
-use Rattle.forms.specs.declared.address.Addressed.{Addressed}
-use Rattle.forms.specs.declared.address.Addressed.the-variants.{Reads, Stops}
+use Rattle.forms.specs.declared.reading.Written.{Written}
+use Rattle.forms.specs.declared.reading.Written.the-variants.{MayHaveLength, HasLength, NoLength, OnlyRegister}
+use Rattle.forms.specs.declared.reading.Addressed.{Addressed}
+use Rattle.forms.specs.declared.reading.Addressed.the-variants.{Reads, Stops}
 
 -- an address with E at a position, its length and its register
 abbrev pub address : ℕ → Item → Item → Address

@@ -20,10 +20,10 @@ use Rattle.forms.specs.declared.Shape.{Shape}
 use Rattle.forms.specs.declared.Shape.the-variants.{Fails, Nothing, StartAt, Expression, Pair, Target, Two, One, Only}
 use Rattle.forms.specs.declared.Lengths.{Lengths}
 use Rattle.forms.specs.declared.Lengths.the-variants.{OnEach, OnOne, OnExactlyOne, OnNone}
-use Rattle.forms.specs.declared.address.Written.{Written}
-use Rattle.forms.specs.declared.address.Written.the-variants.{MayHaveLength, HasLength, NoLength, OnlyRegister}
-use Rattle.forms.specs.declared.address.Addressed.{Addressed}
-use Rattle.forms.specs.declared.address.Addressed.the-variants.{Reads, Stops}
+use Rattle.forms.specs.declared.reading.Written.{Written}
+use Rattle.forms.specs.declared.reading.Written.the-variants.{MayHaveLength, HasLength, NoLength, OnlyRegister}
+use Rattle.forms.specs.declared.reading.Addressed.{Addressed}
+use Rattle.forms.specs.declared.reading.Addressed.the-variants.{Reads, Stops}
 use Rattle.forms.specs.Address.{addressAt}
 
 -- the operand ends here; anything that stands here is no part of it

@@ -1,10 +1,10 @@
 // The form of an operand, from its columns alone: where each expression of it starts, or the first position at which no operand of its form could go on.
 // An operand is a slice of its own, positions count from 0, and an absent operand is empty.
-pub mod address;
+pub mod reading;
 
-use address::Addressed;
-use address::Written;
-use address::address_at;
+use reading::Addressed;
+use reading::Written;
+use reading::address_at;
 use expressions::form::Form;
 use expressions::form::expression_form;
 use letters::byte_at;
