@@ -120,7 +120,8 @@ fn pair_shape(o: &[u8]) -> Shape
         Form::Fails(q) => Shape::Fails(q),
         Form::Ends(q) => {
             if byte_at(o, q) == b',' {
-                last_at(o, q + 1, Shape::Pair(q + 1))
+                let p = q + 1;
+                last_at(o, p, Shape::Pair(p))
             } else {
                 Shape::Fails(q)
             }
@@ -176,7 +177,8 @@ fn two_shape(o: &[u8], k: Lengths) -> Shape
         Addressed::Stops(q) => Shape::Fails(q),
         Addressed::Reads(a, q) => {
             if byte_at(o, q) == b',' {
-                two_of(o, a, q + 1, second_written(k, a.length))
+                let l = a.length;
+                two_of(o, a, q + 1, second_written(k, l))
             } else {
                 Shape::Fails(q)
             }
@@ -191,7 +193,8 @@ fn one_shape(o: &[u8]) -> Shape
         Addressed::Stops(q) => Shape::Fails(q),
         Addressed::Reads(a, q) => {
             if byte_at(o, q) == b',' {
-                last_at(o, q + 1, Shape::One(a, q + 1))
+                let p = q + 1;
+                last_at(o, p, Shape::One(a, p))
             } else {
                 Shape::Fails(q)
             }
