@@ -2,7 +2,7 @@
 use Prim.Native.Nat.{ℕ, zero, suc, _+_, _≤_, _<_}
 use mathlib.Core.List.{List, []}
 use mathlib.Core.Bool.{Bool, true, false}
-use mathlib.Core.Path.{_≡_, refl, sym, ap, _∙_}
+use mathlib.Core.Path.{_≡_, refl, ap, _∙_}
 use native.Mathlib.Omega.{arith}
 use lib.ListN.{length, getD}
 use lib.Dec.{eqb}
@@ -10,60 +10,112 @@ use Rattle.values.specs.Tests.{pick, either}
 use Rattle.terms.specs.declared.Term.{Term}
 use Rattle.terms.specs.declared.Term.the-variants.{Number, Symbol, Here, Bad}
 use Rattle.terms.specs.Terms.{stands, termAt}
-use Rattle.terms.proofs.Within.{Within, term-within, stands-inside}
+use Rattle.terms.proofs.Within.{Stops, Within, term-within, stands-inside}
 use Rattle.expressions.specs.declared.form.Form.{Form}
 use Rattle.expressions.specs.declared.form.Form.the-variants.{Ends, Fails}
-use Rattle.expressions.specs.Form.{Placed, Product, Read, formOf, endOf, behind, onto, placedAt, factorsFrom, factorsAt, ontoFactors, productAt, joins, ontoProducts, productsFrom, productsAt}
+use Rattle.expressions.specs.Form.{Placed, Product, Read, formOf, endOf, behind, onto, placedAt, factorsFrom, factorsAt, ontoFactors, productAt, joins, ontoProducts, productsFrom, productsAt, expressionAt}
 use Rattle.expressions.specs.Form.Read.{upTo, fails}
 
 -- WHERE A READER STANDS
 
--- a good term ends behind its position and inside the columns
-pub end-within : (s : List ℕ) (p q : ℕ) → endOf (termAt s p) ≡ Ends q → (p < q) × (q ≤ length s)
-end-within s p q e = go (termAt s p) (term-within s p) e
+-- the position of an end, good or bad
+abbrev reached : Form → ℕ
+reached (Ends q) = q
+reached (Fails q) = q
+
+-- what is known of something that was read at a position: a good end is behind it and inside the columns; a bad one no nearer, and not past the columns
+abbrev pub Reaches : List ℕ → ℕ → Form → Type 0
+Reaches s at (Ends q) = (at < q) × (q ≤ length s)
+Reaches s at (Fails q) = Stops s at q
+
+pub term-reaches : (s : List ℕ) (p : ℕ) → Reaches s p (endOf (termAt s p))
+term-reaches s p = go (termAt s p) (term-within s p)
   where
-    go : (t : Term) → Within s p t → endOf t ≡ Ends q → (p < q) × (q ≤ length s)
-    go (Number v r) w e = let i : r ≡ q = cc in (omega arith, omega arith)
-    go (Symbol k r) w e = let i : r ≡ q = cc in (omega arith, omega arith)
-    go (Here r) w e = let i : r ≡ q = cc in (omega arith, omega arith)
-    go (Bad r) w e = let z : _≡_ {A = ℕ} 0 1 = cc in absurd (omega arith)
+    go : (t : Term) → Within s p t → Reaches s p (endOf t)
+    go (Number v q) w = (w .0, w .1)
+    go (Symbol k q) w = (w .0, w .1)
+    go (Here q) w = (w .0, w .1)
+    go (Bad q) w = w
+
+pub end-within : (s : List ℕ) (p q : ℕ) → endOf (termAt s p) ≡ Ends q → (p < q) × (q ≤ length s)
+end-within s p q e = let w = term-reaches s p in rw e at w
+
+-- reading on, from a place further on
+further : (s : List ℕ) (p q : ℕ) → p ≤ q → q ≤ length s → (f : Form) → Stops s q (reached f) → p < q → Reaches s p f
+further s p q h i (Ends r) w l = (omega arith, w .1 i)
+further s p q h i (Fails r) w l = (omega arith, λ m. w .1 i)
+
+stops : (s : List ℕ) (p : ℕ) (f : Form) → Reaches s p f → Stops s p (reached f)
+stops s p (Ends q) w = (omega arith, λ l. w .1)
+stops s p (Fails q) w = w
 
 form-onto : {X : Type 0} (x : X) (k : Read (List X)) → formOf (onto x k) ≡ formOf k
 form-onto x (upTo xs q) = refl
 form-onto x (fails q) = refl
 
--- factors end where they begin, or further on inside the columns
-factors-within : (n : ℕ) (s : List ℕ) (q r : ℕ) → formOf (factorsFrom n s q) ≡ Ends r → (q ≤ r) × (q ≤ length s → r ≤ length s)
+-- factors end, or fail, where they begin or further on
+factors-within : (n : ℕ) (s : List ℕ) (q : ℕ) → Stops s q (reached (formOf (factorsFrom n s q)))
 unfolding factorsFrom
-factors-within zero s q r e = let z : _≡_ {A = ℕ} 0 1 = cc in absurd (omega arith)
-factors-within (suc n) s q r e = go (stands "*" s q) (endOf (termAt s (q + 1))) (λ m. end-within s (q + 1) m) (λ m. factors-within n s m r) e
+factors-within zero s q = (omega arith, λ l. l)
+factors-within (suc n) s q = go (stands "*" s q) refl (endOf (termAt s (q + 1))) (term-reaches s (q + 1)) (λ m. factors-within n s m)
   where
-    go : (b : Bool) (f : Form) → ((m : ℕ) → f ≡ Ends m → (q + 1 < m) × (m ≤ length s))
-        → ((m : ℕ) → formOf (factorsFrom n s m) ≡ Ends r → (m ≤ r) × (m ≤ length s → r ≤ length s))
-        → formOf (pick b (behind f (λ m. onto (placedAt s (q + 1)) (factorsFrom n s m))) (upTo [] q)) ≡ Ends r → (q ≤ r) × (q ≤ length s → r ≤ length s)
-    go true (Ends m) w ih e =
-        let (a, i) = w m refl in
-        let (c, d) = ih m (sym (form-onto (placedAt s (q + 1)) (factorsFrom n s m)) ∙ e) in
-        (omega arith, λ l. d i)
-    go true (Fails m) w ih e = let z : _≡_ {A = ℕ} 0 1 = cc in absurd (omega arith)
-    go false f w ih e = let i : q ≡ r = cc in (omega arith, λ l. omega arith)
+    go : (b : Bool) → stands "*" s q ≡ b → (f : Form) → Reaches s (q + 1) f → ((m : ℕ) → Stops s m (reached (formOf (factorsFrom n s m))))
+        → Stops s q (reached (formOf (pick b (behind f (λ m. onto (placedAt s (q + 1)) (factorsFrom n s m))) (upTo [] q))))
+    go true t (Ends m) w ih =
+        let (a, c) = ih m in
+        rw (form-onto (placedAt s (q + 1)) (factorsFrom n s m)) (omega arith, λ l. c (w .1))
+    go true t (Fails m) w ih = (omega arith, λ l. w .1 (omega (arith, stands-inside 42 s q (omega arith) t)))
+    go false t f w ih = (omega arith, λ l. l)
 
--- a product ends behind its position and inside the columns
-pub product-within : (s : List ℕ) (p q : ℕ) → formOf (productAt s p) ≡ Ends q → (p < q) × (q ≤ length s)
+pub product-reaches : (s : List ℕ) (p : ℕ) → Reaches s p (formOf (productAt s p))
 unfolding productAt factorsAt
-product-within s p q e = go (endOf (termAt s p)) (λ m. end-within s p m) e
+product-reaches s p = go (endOf (termAt s p)) (term-reaches s p)
   where
     same : (x : Placed) (k : Read (List Placed)) → formOf (ontoFactors x k) ≡ formOf k
     same x (upTo xs m) = refl
     same x (fails m) = refl
 
-    go : (f : Form) → ((m : ℕ) → f ≡ Ends m → (p < m) × (m ≤ length s))
-        → formOf (behind f (λ m. ontoFactors (placedAt s p) (factorsFrom (suc (length s)) s m))) ≡ Ends q → (p < q) × (q ≤ length s)
-    go (Ends m) w e =
-        let (a, i) = w m refl in
-        let (c, d) = factors-within (suc (length s)) s m q (sym (same (placedAt s p) (factorsFrom (suc (length s)) s m)) ∙ e) in
-        (omega arith, d i)
-    go (Fails m) w e = let z : _≡_ {A = ℕ} 0 1 = cc in absurd (omega arith)
+    go : (f : Form) → Reaches s p f → Reaches s p (formOf (behind f (λ m. ontoFactors (placedAt s p) (factorsFrom (suc (length s)) s m))))
+    go (Ends m) w =
+        rw (same (placedAt s p) (factorsFrom (suc (length s)) s m))
+        (further s p m (omega arith) (w .1) (formOf (factorsFrom (suc (length s)) s m)) (factors-within (suc (length s)) s m) (w .0))
+    go (Fails m) w = w
+
+pub product-within : (s : List ℕ) (p q : ℕ) → formOf (productAt s p) ≡ Ends q → (p < q) × (q ≤ length s)
+product-within s p q e = let w = product-reaches s p in rw e at w
+
+pub joins-inside : (s : List ℕ) (q : ℕ) → joins s q ≡ true → q < length s
+joins-inside s q e = go (stands "+" s q) refl (stands "-" s q) refl e
+  where
+    go : (a : Bool) → stands "+" s q ≡ a → (b : Bool) → stands "-" s q ≡ b → either a b ≡ true → q < length s
+    go true h b k e = stands-inside 43 s q (omega arith) h
+    go false h true k e = stands-inside 45 s q (omega arith) k
+    go false h false k e = let z : _≡_ {A = ℕ} 0 1 = cc in absurd (omega arith)
+
+products-reach : (n : ℕ) (minus : Bool) (s : List ℕ) (p : ℕ) → Reaches s p (formOf (productsFrom n minus s p))
+unfolding productsFrom
+products-reach zero minus s p = (omega arith, λ l. l)
+products-reach (suc n) minus s p = go (productAt s p) (product-reaches s p) (λ m q. products-reach n m s q)
+  where
+    on : (q : ℕ) → (p < q) × (q ≤ length s) → ((m : Bool) (r : ℕ) → Reaches s r (formOf (productsFrom n m s r))) → (b : Bool) → joins s q ≡ b
+        → Reaches s p (formOf (pick b (productsFrom n (stands "-" s q) s (q + 1)) (upTo [] q)))
+    on q w ih true j =
+        let i = joins-inside s q j in
+        let f = formOf (productsFrom n (stands "-" s q) s (q + 1)) in
+        further s p (q + 1) (omega arith) (omega arith) f (stops s (q + 1) f (ih (stands "-" s q) (q + 1))) (omega arith)
+    on q w ih false j = w
+
+    go : (x : Read (Product Placed)) → Reaches s p (formOf x) → ((m : Bool) (r : ℕ) → Reaches s r (formOf (productsFrom n m s r)))
+        → Reaches s p (formOf (ontoProducts minus x (λ q. pick (joins s q) (productsFrom n (stands "-" s q) s (q + 1)) (upTo [] q))))
+    go (upTo x q) w ih =
+        rw (form-onto (record { minus = minus; product = x }) (pick (joins s q) (productsFrom n (stands "-" s q) s (q + 1)) (upTo [] q)))
+        (on q w ih (joins s q) refl)
+    go (fails q) w ih = w
+
+-- an expression ends behind its position and inside the columns, or fails from its position on, not past the columns
+pub expression-reaches : (s : List ℕ) (at : ℕ) → Reaches s at (formOf (expressionAt s at))
+unfolding productsAt
+expression-reaches s at = products-reach (suc (length s)) false s at
 
 -- THE BOUNDS ARE ENOUGH
 
@@ -103,14 +155,6 @@ factors-are s q = go (endOf (termAt s (q + 1))) (λ r. end-within s (q + 1) r)
         ≡ pick (stands "*" s q) (behind f (λ r. onto (placedAt s (q + 1)) (factorsFrom (suc (length s)) s r))) (upTo [] q)
     go (Ends r) w = let (a, i) = w r refl in rw (factors-more-enough (length s) s r (omega arith) i (omega arith))
     go (Fails r) w = refl
-
-pub joins-inside : (s : List ℕ) (q : ℕ) → joins s q ≡ true → q < length s
-joins-inside s q e = go (stands "+" s q) refl (stands "-" s q) refl e
-  where
-    go : (a : Bool) → stands "+" s q ≡ a → (b : Bool) → stands "-" s q ≡ b → either a b ≡ true → q < length s
-    go true h b k e = stands-inside 43 s q (omega arith) h
-    go false h true k e = stands-inside 45 s q (omega arith) k
-    go false h false k e = let z : _≡_ {A = ℕ} 0 1 = cc in absurd (omega arith)
 
 products-enough : (n m : ℕ) (minus : Bool) (s : List ℕ) (p : ℕ) → length s ≤ n + p → length s ≤ m + p → productsFrom (suc n) minus s p ≡ productsFrom (suc m) minus s p
 unfolding productsFrom

@@ -135,10 +135,12 @@ anyOut p m (x ∷ xs) =
     (either (sumOut (p + ifPlus (x .minus) (worth (x .product))) (m + ifMinus (x .minus) (worth (x .product))))
     (anyOut (p + ifPlus (x .minus) (worth (x .product))) (m + ifMinus (x .minus) (worth (x .product))) xs))
 
+-- 19: a relocatable factor somewhere
 unfoldable pub anyMixed : List (Addend Factor) → Bool
 anyMixed [] = false
 anyMixed (x ∷ xs) = either (mixed (x .product)) (anyMixed xs)
 
+-- 18: a name that is not defined somewhere
 unfoldable pub anyUnknown : List (Addend Factor) → Bool
 anyUnknown [] = false
 anyUnknown (x ∷ xs) = either (undefinedIn (x .product)) (anyUnknown xs)
@@ -186,10 +188,11 @@ byKind s =
     pick (eqb (s .afterPlus) (s .afterMinus)) (absoluteOf s)
     (pick (eqb (s .afterPlus) (s .afterMinus + 1)) (relocatableOf s) WrongKind)
 
--- "18 before 19 before 20"
+-- "18 before 19 before 20", whatever their order in the text
 unfoldable pub valueOf : Sum → Evaluated
 valueOf s = pick (s .undefined) Undefined (pick (s .mixed) WrongKind (byKind s))
 
+-- the value of what was read as an expression, or why it has none
 unfoldable pub evaluated : (ℕ → Entry) → ℕ → Read (List (Addend Placed)) → Evaluated
 evaluated look here (upTo xs q) = valueOf (sumOf (map (addendFactors look here) xs))
 evaluated look here (fails q) = Malformed
