@@ -1,5 +1,8 @@
 -- `ended` meets its contract: something stands at the position, or nothing does.
-use borrow.Author.Tests.{lt-ltb, le-ltb}
+use mathlib.Core.Bool.{Bool, true, false}
+use native.Mathlib.Omega.{arith}
+use mathlib.Core.Path.{_≡_, refl, sym, ap, _∙_}
+use borrow.Author.Tests.{lt-ltb, le-ltb, eq-eqb, ne-eqb}
 use Rattle.forms.specs.Shape.{ended}
 use Rattle.forms.proofs.ended.Statement.{statement}
 use Rattle.forms.proofs.ended.Tie as tie

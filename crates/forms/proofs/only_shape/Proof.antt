@@ -1,5 +1,7 @@
 -- `only_shape` meets its contract: an address, and the end of the operand behind it.
-use mathlib.Core.Path.{sym}
+use mathlib.Core.Bool.{Bool, true, false}
+use native.Mathlib.Omega.{arith}
+use mathlib.Core.Path.{_≡_, refl, sym, ap, _∙_}
 use Rattle.forms.specs.Shape.{onlyShape}
 use borrow.Author.Needs.{needs}
 use Rattle.forms.proofs.only_shape.Statement.{statement}

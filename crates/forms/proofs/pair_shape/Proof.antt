@@ -1,6 +1,7 @@
 -- `pair_shape` meets its contract: an expression, a comma, and the last expression.
+use mathlib.Core.Bool.{Bool, true, false}
 use native.Mathlib.Omega.{arith}
-use mathlib.Core.Path.{sym}
+use mathlib.Core.Path.{_≡_, refl, sym, ap, _∙_}
 use Rattle.letters.proofs.Laws.{is-byte, no-byte}
 use Rattle.terms.proofs.Within.{stands-inside}
 use Rattle.forms.specs.Shape.{pairShape}

@@ -1,5 +1,7 @@
 -- `register_at` meets its contract: the register's form, and what closes it.
-use mathlib.Core.Path.{sym}
+use mathlib.Core.Bool.{Bool, true, false}
+use native.Mathlib.Omega.{arith}
+use mathlib.Core.Path.{_≡_, refl, sym, ap, _∙_}
 use Rattle.forms.specs.Address.{registerAt}
 use borrow.Author.Needs.{needs}
 use Rattle.forms.proofs.reading.register_at.Statement.{statement}
