@@ -40,6 +40,7 @@ use Rattle.forms.specs.declared.reading.Written.the-variants.{MayHaveLen
 use Rattle.forms.specs.declared.reading.Addressed.{Addressed}
 use Rattle.forms.specs.declared.reading.Addressed.the-variants.{Reads, Stops}
 use Rattle.forms.specs.Address.{address, behind, closed, registerAt, behindLength, lengthAt, orRegister, itemsAt, plain, behindAddress, addressAt}
+use Rattle.forms.specs.Size.{addressSize}
 use Rattle.forms.specs.Shape.{ended, behindForm, behindAddressed, behindComma, lastAt, startTerm, startOf, startShape, endShape, pairShape, firstWritten, secondWritten, twoOf, twoShape, oneShape, onlyShape, behindData, constantShape, reserveShape, shapeOf}
 
 -- WHAT IS KNOWN OF A SHAPE
@@ -310,3 +311,66 @@ shape-in LoadAddress o = one-in o
 shape-in (BranchOn q) o = only-in o
 shape-in Jump o = pair-in o
 shape-in (JumpOn q) o = last-in o 0 Target (omega arith) (λ e. e)
+
+-- LENGTHS
+
+-- ZAZ, AZ and SZ: on each; "L on one operand"; MVX: "on exactly one operand"; extended moves: none
+abbrev pub Allowed : Lengths → ℕ → ℕ → Type 0
+Allowed OnEach m n = (m ≤ 1) × (n ≤ 1)
+Allowed OnOne m n = m + n ≤ 1
+Allowed OnExactlyOne m n = m + n ≡ 1
+Allowed OnNone m n = m + n ≡ 0
+
+-- two addresses with as many lengths as are allowed, or 15
+abbrev pub TwoIn : Lengths → Shape → Type 0
+TwoIn k (Two a b) = Allowed k (lengthsIn (a .length)) (lengthsIn (b .length))
+TwoIn k (Fails q) = Unit {0}
+TwoIn k Nothing = ⊥
+TwoIn k (StartAt v) = ⊥
+TwoIn k Expression = ⊥
+TwoIn k (Pair p) = ⊥
+TwoIn k Target = ⊥
+TwoIn k (One a p) = ⊥
+TwoIn k (Only a) = ⊥
+TwoIn k (Constant d) = ⊥
+TwoIn k (Reserve d) = ⊥
+
+allowed : (k : Lengths) (l m : Item) → AsWritten (firstWritten k) l → AsWritten (secondWritten k l) m → Allowed k (lengthsIn l) (lengthsIn m)
+allowed OnEach l m i j = (i, j)
+allowed OnOne Absent m i j = omega arith
+allowed OnOne (At p) m i j = omega arith
+allowed OnExactlyOne Absent m i j = omega arith
+allowed OnExactlyOne (At p) m i j = omega arith
+allowed OnNone l m i j = omega arith
+
+pub two-lengths : (k : Lengths) (o : List ℕ) → TwoIn k (twoShape k o)
+unfolding twoShape twoOf ended
+two-lengths k o = first (addressAt (firstWritten k) o 0) (address-in (firstWritten k) o 0 (omega arith))
+  where
+    done : (a b : Address) (q : ℕ) (c : Bool) → Allowed k (lengthsIn (a .length)) (lengthsIn (b .length)) → TwoIn k (pick c (Fails q) (Two a b))
+    done a b q true i = tt
+    done a b q false i = i
+
+    second : (a : Address) → AsWritten (firstWritten k) (a .length) → (x : Addressed) → AddressedIn (AsWritten (secondWritten k (a .length))) o x
+        → TwoIn k (behindAddressed x (λ b q. pick (ltb q (length o)) (Fails q) (Two a b)))
+    second a i (Reads b q) w = done a b q (ltb q (length o)) (allowed k (a .length) (b .length) i (w .2))
+    second a i (Stops q) w = tt
+
+    comma : (a : Address) → AsWritten (firstWritten k) (a .length) → (q : ℕ) (c : Bool) → stands "," o q ≡ c
+        → TwoIn k (pick c (twoOf o a (q + 1) (secondWritten k (a .length))) (Fails q))
+    comma a i q true e =
+        second a i (addressAt (secondWritten k (a .length)) o (q + 1))
+        (address-in (secondWritten k (a .length)) o (q + 1) (omega (arith, stands-inside 44 o q (omega arith) e)))
+    comma a i q false e = tt
+
+    first : (x : Addressed) → AddressedIn (AsWritten (firstWritten k)) o x
+        → TwoIn k (behindAddressed x (λ a q. behindComma o q (λ p. twoOf o a p (secondWritten k (a .length)))))
+    first (Reads a q) w = comma a (w .2) q (stands "," o q) refl
+    first (Stops q) w = tt
+
+-- SIZES
+
+-- "Direct takes two bytes, indexed one"
+pub address-size : (r : Item) → (1 ≤ addressSize r) × (addressSize r ≤ 2)
+address-size Absent = (omega arith, omega arith)
+address-size (At p) = (omega arith, omega arith)
