@@ -1,8 +1,5 @@
 -- `end_shape` meets its contract: no operand, or an expression.
-use mathlib.Core.Bool.{Bool, true, false}
-use native.Mathlib.Omega.{arith}
-use mathlib.Core.Path.{_≡_, refl, sym, ap, _∙_}
-use borrow.Author.Tests.{lt-ltb, le-ltb, eq-eqb, ne-eqb}
+use borrow.Author.Tests.{eq-eqb, ne-eqb}
 use Rattle.forms.specs.Shape.{endShape}
 use borrow.Author.Needs.{needs}
 use Rattle.forms.proofs.end_shape.Statement.{statement}

@@ -1,8 +1,5 @@
 -- `ended` meets its contract: something stands at the position, or nothing does.
-use mathlib.Core.Bool.{Bool, true, false}
-use native.Mathlib.Omega.{arith}
-use mathlib.Core.Path.{_≡_, refl, sym, ap, _∙_}
-use borrow.Author.Tests.{lt-ltb, le-ltb, eq-eqb, ne-eqb}
+use borrow.Author.Tests.{lt-ltb, le-ltb}
 use Rattle.forms.specs.Shape.{ended}
 use Rattle.forms.proofs.ended.Statement.{statement}
 use Rattle.forms.proofs.ended.Tie as tie

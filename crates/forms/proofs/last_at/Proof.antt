@@ -1,7 +1,5 @@
 -- `last_at` meets its contract: the expression's form, and the end of the operand behind it.
-use mathlib.Core.Bool.{Bool, true, false}
-use native.Mathlib.Omega.{arith}
-use mathlib.Core.Path.{_≡_, refl, sym, ap, _∙_}
+use mathlib.Core.Path.{sym}
 use Rattle.forms.specs.Shape.{lastAt}
 use borrow.Author.Needs.{needs}
 use Rattle.forms.proofs.last_at.Statement.{statement}

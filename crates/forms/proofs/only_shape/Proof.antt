@@ -1,7 +1,5 @@
 -- `only_shape` meets its contract: an address, and the end of the operand behind it.
-use mathlib.Core.Bool.{Bool, true, false}
-use native.Mathlib.Omega.{arith}
-use mathlib.Core.Path.{_≡_, refl, sym, ap, _∙_}
+use mathlib.Core.Path.{sym}
 use Rattle.forms.specs.Shape.{onlyShape}
 use borrow.Author.Needs.{needs}
 use Rattle.forms.proofs.only_shape.Statement.{statement}

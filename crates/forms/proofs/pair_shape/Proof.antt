@@ -1,7 +1,6 @@
 -- `pair_shape` meets its contract: an expression, a comma, and the last expression.
-use mathlib.Core.Bool.{Bool, true, false}
 use native.Mathlib.Omega.{arith}
-use mathlib.Core.Path.{_≡_, refl, sym, ap, _∙_}
+use mathlib.Core.Path.{sym}
 use Rattle.letters.proofs.Laws.{is-byte, no-byte}
 use Rattle.terms.proofs.Within.{stands-inside}
 use Rattle.forms.specs.Shape.{pairShape}

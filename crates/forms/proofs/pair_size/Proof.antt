@@ -1,7 +1,4 @@
 -- `pair_size` meets its contract, operation by operation.
-use mathlib.Core.Bool.{Bool, true, false}
-use native.Mathlib.Omega.{arith}
-use mathlib.Core.Path.{_≡_, refl, sym, ap, _∙_}
 use borrow.Author.Needs.{needs}
 use Rattle.forms.proofs.pair_size.Statement.{statement}
 use Rattle.forms.proofs.pair_size.Tie as tie

@@ -1,7 +1,4 @@
 -- `second_written` meets its contract, by cases.
-use mathlib.Core.Bool.{Bool, true, false}
-use native.Mathlib.Omega.{arith}
-use mathlib.Core.Path.{_≡_, refl, sym, ap, _∙_}
 use borrow.Author.Needs.{needs}
 use Rattle.forms.proofs.second_written.Statement.{statement}
 use Rattle.forms.proofs.second_written.Tie as tie

@@ -1,7 +1,4 @@
 -- `start_of` meets its contract, term by term.
-use mathlib.Core.Bool.{Bool, true, false}
-use native.Mathlib.Omega.{arith}
-use mathlib.Core.Path.{_≡_, refl, sym, ap, _∙_}
 use borrow.Author.Needs.{needs}
 use Rattle.forms.proofs.start_of.Statement.{statement}
 use Rattle.forms.proofs.start_of.Tie as tie

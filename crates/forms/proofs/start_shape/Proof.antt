@@ -1,8 +1,6 @@
 -- `start_shape` meets its contract: no operand, or START's term.
-use mathlib.Core.Bool.{Bool, true, false}
-use native.Mathlib.Omega.{arith}
-use mathlib.Core.Path.{_≡_, refl, sym, ap, _∙_}
-use borrow.Author.Tests.{lt-ltb, le-ltb, eq-eqb, ne-eqb}
+use mathlib.Core.Path.{sym}
+use borrow.Author.Tests.{eq-eqb, ne-eqb}
 use Rattle.forms.specs.Shape.{startShape}
 use borrow.Author.Needs.{needs}
 use Rattle.forms.proofs.start_shape.Statement.{statement}

@@ -1,9 +1,5 @@
 -- `start_term` meets its contract, by the bytes that were read.
-use mathlib.Core.Bool.{Bool, true, false}
-use native.Mathlib.Omega.{arith}
-use mathlib.Core.Path.{_≡_, refl, sym, ap, _∙_}
 use Rattle.letters.proofs.Laws.{is-byte, no-byte}
-use Rattle.terms.proofs.Within.{stands-inside}
 use Rattle.forms.specs.Shape.{startTerm}
 use borrow.Author.Needs.{needs}
 use Rattle.forms.proofs.start_term.Statement.{statement}

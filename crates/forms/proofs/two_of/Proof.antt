@@ -1,7 +1,5 @@
 -- `two_of` meets its contract: the second address, and the end of the operand behind it.
-use mathlib.Core.Bool.{Bool, true, false}
-use native.Mathlib.Omega.{arith}
-use mathlib.Core.Path.{_≡_, refl, sym, ap, _∙_}
+use mathlib.Core.Path.{sym}
 use Rattle.forms.specs.Shape.{twoOf}
 use borrow.Author.Needs.{needs}
 use Rattle.forms.proofs.two_of.Statement.{statement}

@@ -1,7 +1,5 @@
 -- `address_at` meets its contract: the expression's form, and what stands behind it.
-use mathlib.Core.Bool.{Bool, true, false}
-use native.Mathlib.Omega.{arith}
-use mathlib.Core.Path.{_≡_, refl, sym, ap, _∙_}
+use mathlib.Core.Path.{sym}
 use Rattle.forms.specs.Address.{addressAt}
 use borrow.Author.Needs.{needs}
 use Rattle.forms.proofs.reading.address_at.Statement.{statement}

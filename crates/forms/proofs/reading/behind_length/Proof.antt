@@ -1,7 +1,5 @@
 -- `behind_length` meets its contract, by the byte that was read.
-use mathlib.Core.Bool.{Bool, true, false}
 use native.Mathlib.Omega.{arith}
-use mathlib.Core.Path.{_≡_, refl, sym, ap, _∙_}
 use Rattle.letters.proofs.Laws.{is-byte, no-byte}
 use Rattle.terms.proofs.Within.{stands-inside}
 use Rattle.forms.specs.Address.{behindLength}

@@ -1,7 +1,5 @@
 -- `items_at` meets its contract, by cases.
-use mathlib.Core.Bool.{Bool, true, false}
-use native.Mathlib.Omega.{arith}
-use mathlib.Core.Path.{_≡_, refl, sym, ap, _∙_}
+use mathlib.Core.Path.{sym}
 use borrow.Author.Needs.{needs}
 use Rattle.forms.proofs.reading.items_at.Statement.{statement}
 use Rattle.forms.proofs.reading.items_at.Tie as tie

@@ -1,7 +1,5 @@
 -- `length_at` meets its contract: the length's form, and what stands behind it.
-use mathlib.Core.Bool.{Bool, true, false}
-use native.Mathlib.Omega.{arith}
-use mathlib.Core.Path.{_≡_, refl, sym, ap, _∙_}
+use mathlib.Core.Path.{sym}
 use Rattle.forms.specs.Address.{lengthAt}
 use borrow.Author.Needs.{needs}
 use Rattle.forms.proofs.reading.length_at.Statement.{statement}

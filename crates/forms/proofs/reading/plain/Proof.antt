@@ -1,7 +1,4 @@
 -- `plain` meets its contract, by cases.
-use mathlib.Core.Bool.{Bool, true, false}
-use native.Mathlib.Omega.{arith}
-use mathlib.Core.Path.{_≡_, refl, sym, ap, _∙_}
 use borrow.Author.Needs.{needs}
 use Rattle.forms.proofs.reading.plain.Statement.{statement}
 use Rattle.forms.proofs.reading.plain.Tie as tie
