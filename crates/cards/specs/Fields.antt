@@ -61,22 +61,14 @@ endOfOperand s at = operandEnd (length s - at) false s at
 abbrev pub loneComma : List ℕ → ℕ → ℕ → Bool
 loneComma s from to = both (eqb to (from + 1)) (stands "," s from)
 
--- "Operation, operand and remark follow": the operation and the operand from a column on. An absent one ends where it starts
-abbrev pub operandUpTo : ℕ → List ℕ → ℕ → ℕ → ℕ → ℕ → Fields
-operandUpTo name s operation behind from to =
-    record { name = name; operation = operation; behind = behind; operand = from; end = pick (loneComma s from to) from to }
-
-abbrev pub operandFrom : ℕ → List ℕ → ℕ → ℕ → ℕ → Fields
-operandFrom name s operation behind from = operandUpTo name s operation behind from (endOfOperand s from)
-
-abbrev pub operationUpTo : ℕ → List ℕ → ℕ → ℕ → Fields
-operationUpTo name s operation behind = operandFrom name s operation behind (nextWord s behind)
-
-abbrev pub operationFrom : ℕ → List ℕ → ℕ → Fields
-operationFrom name s operation = operationUpTo name s operation (endOfWord s operation)
-
+-- "Operation, operand and remark follow, parted by blanks": where they lie, from a column on. An absent one ends where it starts
 unfoldable pub fieldsFrom : ℕ → List ℕ → ℕ → Fields
-fieldsFrom name s at = operationFrom name s (nextWord s at)
+fieldsFrom name s at =
+    let operation = nextWord s at in
+    let behind = endOfWord s operation in
+    let from = nextWord s behind in
+    let to = endOfOperand s from in
+    record { name = name; operation = operation; behind = behind; operand = from; end = pick (loneComma s from to) from to }
 
 -- a name ends at a blank or with the last column
 abbrev pub nameEnds : List ℕ → ℕ → Bool

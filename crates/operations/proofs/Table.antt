@@ -12,7 +12,7 @@ use Rattle.values.specs.Tests.{pick, both}
 use Rattle.letters.proofs.Every.{every, both-left, both-right}
 use Rattle.operations.specs.Rows.{lettersOf, number5, Row, operationIn}
 use Rattle.operations.specs.Model10.{ownOperations, twoAddresses, oneAddresses, branches, jumps, extendedMoves, extendedBranches, extendedJumps, model10}
-use Rattle.operations.specs.Sorted.{keyAt, rowFrom, rowIn, Rising, sortedLetters, sortedOperations}
+use Rattle.operations.specs.Sorted.{keyAt, rowFrom, rowIn, Rising, mnemonics, sortedLetters, sortedOperations}
 use Rattle.operations.specs.declared.Operation.{Operation}
 use Rattle.operations.specs.declared.Operation.the-variants.{Unknown}
 use Rattle.operations.proofs.Search.{row-found, row-within, rises, rising-by}
@@ -20,11 +20,11 @@ use Rattle.operations.proofs.Search.{row-found, row-within, rises, risi
 -- THE LETTERS RISE
 
 rises-everywhere : every (rises sortedLetters) 0 74 ≡ true
-unfolding every sortedLetters lettersOf number5
+unfolding every sortedLetters mnemonics lettersOf number5
 rises-everywhere = refl
 
 pub sorted-length : length sortedLetters ≡ 75
-unfolding sortedLetters
+unfolding sortedLetters mnemonics
 sorted-length = refl
 
 pub sorted-rising : Rising sortedLetters
@@ -37,7 +37,7 @@ abbrev pub said : List ℕ → Operation
 said letters = operationIn model10 (number5 letters)
 
 pub each-row : map said sortedLetters ≡ sortedOperations
-unfolding operationIn model10 ownOperations twoAddresses oneAddresses branches jumps extendedMoves extendedBranches extendedJumps sortedLetters sortedOperations lettersOf number5
+unfolding operationIn model10 ownOperations twoAddresses oneAddresses branches jumps extendedMoves extendedBranches extendedJumps sortedLetters mnemonics sortedOperations lettersOf number5
 each-row = refl
 
 -- past the last row no letters stand, and they are no operation
@@ -58,7 +58,7 @@ inRows ls [] = true
 inRows ls (r ∷ rs) = both (ltb (rowIn ls (number5 (r .letters))) (length ls)) (inRows ls rs)
 
 pub all-in-rows : inRows sortedLetters model10 ≡ true
-unfolding inRows rowFrom model10 ownOperations twoAddresses oneAddresses branches jumps extendedMoves extendedBranches extendedJumps sortedLetters lettersOf number5
+unfolding inRows rowFrom model10 ownOperations twoAddresses oneAddresses branches jumps extendedMoves extendedBranches extendedJumps sortedLetters mnemonics lettersOf number5
 all-in-rows = refl
 
 not-in-rows : (ls : List (List ℕ)) (rs : List Row) (key : ℕ) → inRows ls rs ≡ true → length ls ≤ rowIn ls key → operationIn rs key ≡ Unknown
@@ -105,3 +105,16 @@ eachOnce all (r ∷ rs) = both (eqb (timesIn all (number5 (r .letters))) 1) (eac
 pub no-mnemonic-twice : eachOnce model10 model10 ≡ true
 unfolding eachOnce timesIn model10 ownOperations twoAddresses oneAddresses branches jumps extendedMoves extendedBranches extendedJumps lettersOf number5
 no-mnemonic-twice = refl
+
+-- LETTERS AND THEIR NUMBER
+
+-- letters with one number are the same, one by one
+pub same-letters : (a b : List ℕ) → ((k : ℕ) → getD a k 0 < 256) → ((k : ℕ) → getD b k 0 < 256) → number5 a ≡ number5 b
+    → (k : ℕ) → k < 5 → getD a k 0 ≡ getD b k 0
+unfolding number5
+same-letters a b f g e zero h = omega (arith, f 0, f 1, f 2, f 3, f 4, g 0, g 1, g 2, g 3, g 4)
+same-letters a b f g e (suc zero) h = omega (arith, f 0, f 1, f 2, f 3, f 4, g 0, g 1, g 2, g 3, g 4)
+same-letters a b f g e (suc (suc zero)) h = omega (arith, f 0, f 1, f 2, f 3, f 4, g 0, g 1, g 2, g 3, g 4)
+same-letters a b f g e (suc (suc (suc zero))) h = omega (arith, f 0, f 1, f 2, f 3, f 4, g 0, g 1, g 2, g 3, g 4)
+same-letters a b f g e (suc (suc (suc (suc zero)))) h = omega (arith, f 0, f 1, f 2, f 3, f 4, g 0, g 1, g 2, g 3, g 4)
+same-letters a b f g e (suc (suc (suc (suc (suc k))))) h = absurd (omega arith)

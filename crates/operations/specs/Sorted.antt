@@ -1,6 +1,7 @@
 -- The code's table of the operations of a Model 10: letters in the order of their ASCII bytes, and beside them what they stand for.
 use Prim.Native.Nat.{ℕ, zero, suc, _+_, _<_}
-use mathlib.Core.List.{List, [], _∷_}
+use Prim.Native.String.{String}
+use mathlib.Core.List.{List, [], _∷_, map}
 use lib.ListN.{length, getD}
 use lib.Dec.{eqb}
 use Rattle.values.specs.Tests.{pick}
@@ -24,25 +25,20 @@ rowIn rows key = rowFrom (length rows) rows key 0
 abbrev pub Rising : List (List ℕ) → Type 0
 Rising rows = (i j : ℕ) → i < j → j < length rows → keyAt rows i < keyAt rows j
 
--- the letters of each row
-unfoldable pub sortedLetters : List (List ℕ)
-sortedLetters =
-    lettersOf 5 "A" ∷ lettersOf 5 "ALC" ∷ lettersOf 5 "AZ" ∷ lettersOf 5 "B" ∷ lettersOf 5 "BC" ∷ lettersOf 5 "BE" ∷
-    lettersOf 5 "BF" ∷ lettersOf 5 "BH" ∷ lettersOf 5 "BL" ∷ lettersOf 5 "BM" ∷ lettersOf 5 "BNE" ∷ lettersOf 5 "BNH" ∷
-    lettersOf 5 "BNL" ∷ lettersOf 5 "BNM" ∷ lettersOf 5 "BNOL" ∷ lettersOf 5 "BNOZ" ∷ lettersOf 5 "BNP" ∷
-    lettersOf 5 "BNZ" ∷ lettersOf 5 "BOL" ∷ lettersOf 5 "BOZ" ∷ lettersOf 5 "BP" ∷ lettersOf 5 "BT" ∷ lettersOf 5 "BZ" ∷
-    lettersOf 5 "CLC" ∷ lettersOf 5 "CLI" ∷ lettersOf 5 "DC" ∷ lettersOf 5 "DROP" ∷ lettersOf 5 "DS" ∷ lettersOf 5 "ED" ∷
-    lettersOf 5 "END" ∷ lettersOf 5 "EQU" ∷ lettersOf 5 "ITC" ∷ lettersOf 5 "J" ∷ lettersOf 5 "JC" ∷ lettersOf 5 "JE" ∷
-    lettersOf 5 "JF" ∷ lettersOf 5 "JH" ∷ lettersOf 5 "JL" ∷ lettersOf 5 "JM" ∷ lettersOf 5 "JNE" ∷ lettersOf 5 "JNH" ∷
-    lettersOf 5 "JNL" ∷ lettersOf 5 "JNM" ∷ lettersOf 5 "JNOL" ∷ lettersOf 5 "JNOZ" ∷ lettersOf 5 "JNP" ∷
-    lettersOf 5 "JNZ" ∷ lettersOf 5 "JOL" ∷ lettersOf 5 "JOZ" ∷ lettersOf 5 "JP" ∷ lettersOf 5 "JT" ∷ lettersOf 5 "JZ" ∷
-    lettersOf 5 "L" ∷ lettersOf 5 "LA" ∷ lettersOf 5 "LIO" ∷ lettersOf 5 "MNN" ∷ lettersOf 5 "MNZ" ∷ lettersOf 5 "MVC" ∷
-    lettersOf 5 "MVI" ∷ lettersOf 5 "MVX" ∷ lettersOf 5 "MZN" ∷ lettersOf 5 "MZZ" ∷ lettersOf 5 "ORG" ∷
-    lettersOf 5 "SBF" ∷ lettersOf 5 "SBN" ∷ lettersOf 5 "SLC" ∷ lettersOf 5 "SNS" ∷ lettersOf 5 "ST" ∷
-    lettersOf 5 "START" ∷ lettersOf 5 "SZ" ∷ lettersOf 5 "TBF" ∷ lettersOf 5 "TBN" ∷ lettersOf 5 "TIO" ∷
-    lettersOf 5 "USING" ∷ lettersOf 5 "ZAZ" ∷ []
+-- the mnemonics, and the letters of each row
+unfoldable pub mnemonics : List String
+mnemonics =
+    "A" ∷ "ALC" ∷ "AZ" ∷ "B" ∷ "BC" ∷ "BE" ∷ "BF" ∷ "BH" ∷ "BL" ∷ "BM" ∷ "BNE" ∷ "BNH" ∷ "BNL" ∷ "BNM" ∷ "BNOL" ∷
+    "BNOZ" ∷ "BNP" ∷ "BNZ" ∷ "BOL" ∷ "BOZ" ∷ "BP" ∷ "BT" ∷ "BZ" ∷ "CLC" ∷ "CLI" ∷ "DC" ∷ "DROP" ∷ "DS" ∷ "ED" ∷ "END" ∷
+    "EQU" ∷ "ITC" ∷ "J" ∷ "JC" ∷ "JE" ∷ "JF" ∷ "JH" ∷ "JL" ∷ "JM" ∷ "JNE" ∷ "JNH" ∷ "JNL" ∷ "JNM" ∷ "JNOL" ∷ "JNOZ" ∷
+    "JNP" ∷ "JNZ" ∷ "JOL" ∷ "JOZ" ∷ "JP" ∷ "JT" ∷ "JZ" ∷ "L" ∷ "LA" ∷ "LIO" ∷ "MNN" ∷ "MNZ" ∷ "MVC" ∷ "MVI" ∷ "MVX" ∷
+    "MZN" ∷ "MZZ" ∷ "ORG" ∷ "SBF" ∷ "SBN" ∷ "SLC" ∷ "SNS" ∷ "ST" ∷ "START" ∷ "SZ" ∷ "TBF" ∷ "TBN" ∷ "TIO" ∷ "USING" ∷
+    "ZAZ" ∷ []
 
--- and its operation
+unfoldable pub sortedLetters : List (List ℕ)
+sortedLetters = map (lettersOf 5) mnemonics
+
+-- what each row stands for
 unfoldable pub sortedOperations : List Operation
 sortedOperations =
     OneAddress 0x6 ∷ Characters 0xE ∷ Decimal 0x6 ∷ BranchOn 0x87 ∷ Branch 0x0 ∷ BranchOn 0x81 ∷ BranchOn 0x90 ∷

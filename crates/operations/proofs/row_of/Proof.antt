@@ -1,5 +1,5 @@
 -- `row_of` meets its contract: the table's letters rise.
-use Rattle.operations.specs.Sorted.{sortedLetters}
+use Rattle.operations.specs.Sorted.{mnemonics, sortedLetters}
 use Rattle.operations.specs.Rows.{lettersOf}
 use Rattle.operations.proofs.Table.{sorted-rising}
 use borrow.Author.Needs.{needs}
@@ -10,11 +10,11 @@ slice-aggregate-find-row : tie.Need-slice-aggregate-find-row
 slice-aggregate-find-row c = search needs
 
 find-row-requires : tie.Need-find-row-requires
-unfolding sortedLetters lettersOf
+unfolding sortedLetters mnemonics lettersOf
 find-row-requires c κs = sorted-rising
 
 returns : tie.Need-returns
-unfolding sortedLetters lettersOf
+unfolding sortedLetters mnemonics lettersOf
 returns c = c .find-row .ensures
 
 pub row-of-spec : {M : Type 1} → statement M
