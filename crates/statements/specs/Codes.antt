@@ -8,7 +8,7 @@ use Rattle.statements.specs.declared.operands.Valued.{Valued}
 use Rattle.statements.specs.declared.operands.Valued.the-variants.{Absent, Of}
 use Rattle.statements.specs.declared.operands.Place.{Place}
 use Rattle.statements.specs.declared.operands.Operands.{Operands}
-use Rattle.statements.specs.declared.operands.Operands.the-variants.{Two, One, Only, Pair, Lone, None}
+use Rattle.statements.specs.declared.operands.Operands.the-variants.{Two, One, Only, Pair, Lone, Addresses, None}
 use Rattle.statements.specs.declared.codes.Code.{Code}
 use Rattle.statements.specs.declared.codes.Code.the-variants.{Byte, OutOfRange}
 use Rattle.statements.specs.declared.codes.Rule.{Rule}
@@ -91,6 +91,7 @@ codeOf op (One a q) = behindCode (ruleOf op) (amountIn q)
 codeOf op (Only a) = givenCode (ruleOf op)
 codeOf op (Pair e q) = behindCode (ruleOf op) (amountIn q)
 codeOf op (Lone e) = givenCode (ruleOf op)
+codeOf op (Addresses n m e) = givenCode (ruleOf op)
 codeOf op None = givenCode (ruleOf op)
 
 -- 21: "length, copies or Q out of range"

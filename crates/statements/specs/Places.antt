@@ -14,7 +14,7 @@ use Rattle.statements.specs.declared.operands.Valued.{Valued}
 use Rattle.statements.specs.declared.operands.Valued.the-variants.{Absent, Of}
 use Rattle.statements.specs.declared.operands.Place.{Place}
 use Rattle.statements.specs.declared.operands.Operands.{Operands}
-use Rattle.statements.specs.declared.operands.Operands.the-variants.{Two, One, Only, Pair, Lone, None}
+use Rattle.statements.specs.declared.operands.Operands.the-variants.{Two, One, Only, Pair, Lone, Addresses, None}
 use Rattle.statements.specs.declared.codes.Code.{Code}
 use Rattle.statements.specs.declared.codes.Code.the-variants.{Byte, OutOfRange}
 use Rattle.statements.specs.declared.places.Base.{Base}
@@ -129,6 +129,7 @@ placesNo u (One a q) here bases = placedNo (operandOf bases a)
 placesNo u (Only a) here bases = placedNo (operandOf bases a)
 placesNo u (Pair e last) here bases = useNo u here e last
 placesNo u (Lone e) here bases = useNo u here e e
+placesNo u (Addresses n m e) here bases = 0
 placesNo u None here bases = 0
 
 -- USING AND DROP
@@ -144,6 +145,7 @@ registeredBy (One a q) bases = bases
 registeredBy (Only a) bases = bases
 registeredBy (Pair e r) bases = withBase bases (amountIn r) (Base.Of (valueIn e))
 registeredBy (Lone r) bases = withBase bases (amountIn r) Base.Idle
+registeredBy (Addresses n m e) bases = bases
 registeredBy None bases = bases
 
 unfoldable pub basesBy : Use → Operands → Bases → Bases

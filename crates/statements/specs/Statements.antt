@@ -9,7 +9,7 @@ use Rattle.expressions.specs.Value.{valueIn}
 use Rattle.operations.specs.declared.Operation.{Operation}
 use Rattle.forms.specs.declared.Shape.{Shape}
 use Rattle.statements.specs.declared.operands.Operands.{Operands}
-use Rattle.statements.specs.declared.operands.Operands.the-variants.{Two, One, Only, Pair, Lone, None}
+use Rattle.statements.specs.declared.operands.Operands.the-variants.{Two, One, Only, Pair, Lone, Addresses, None}
 use Rattle.statements.specs.declared.places.Bases.{Bases}
 use Rattle.statements.specs.declared.places.Use.{Use}
 use Rattle.statements.specs.declared.places.Use.the-variants.{Jumps, Registers, Nothing}
@@ -35,6 +35,7 @@ statementFrom op (One a q) here bases = Statement.One op (codeByte (codeOf op (O
 statementFrom op (Only a) here bases = Statement.One op (codeByte (codeOf op (Only a))) (operandIn (operandOf bases a))
 statementFrom op (Pair e q) here bases = jumpOf (useOf op) (codeByte (codeOf op (Pair e q))) here (valueIn e)
 statementFrom op (Lone e) here bases = jumpOf (useOf op) (codeByte (codeOf op (Lone e))) here (valueIn e)
+statementFrom op (Addresses n m e) here bases = Statement.Addresses n m (valueIn e)
 statementFrom op None here bases = Statement.None
 
 -- the bases in force behind a card
@@ -48,6 +49,7 @@ loneValue (One a q) = Absolute (record { 0 = 0 })
 loneValue (Only a) = Absolute (record { 0 = 0 })
 loneValue (Pair e q) = Absolute (record { 0 = 0 })
 loneValue (Lone e) = valueIn e
+loneValue (Addresses n m e) = Absolute (record { 0 = 0 })
 loneValue None = Absolute (record { 0 = 0 })
 
 -- from the shape of the operand, its columns, what the names say, the counter at the start of the card and the bases in force

@@ -163,6 +163,7 @@ pub fn code_of(op: Operation, x: Operands) -> Code
         Operands::Only(_) => given_code(rule),
         Operands::Pair(_, q) => behind_code(rule, amount_in(q)),
         Operands::Lone(_) => given_code(rule),
+        Operands::Addresses(_, _, _) => given_code(rule),
         Operands::None => given_code(rule),
     }
 }

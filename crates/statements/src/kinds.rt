@@ -7,7 +7,7 @@ use expressions::Wanted;
 use expressions::refusal_for;
 use operations::Operation;
 ghost use mathlib.Core.Path.{_≡_};
-ghost use Rattle.statements.specs.Kinds.{firstWanted, itemNo, placeNo, expressionsNo};
+ghost use Rattle.statements.specs.Kinds.{firstWanted, addressWanted, itemNo, placeNo, expressionsNo};
 
 // The kind that the first expression of a card must have.
 fn first_wanted(op: Operation) -> Wanted
@@ -34,6 +34,12 @@ fn first_wanted(op: Operation) -> Wanted
         Operation::Jump => Wanted::OnlyRelocatable,
         Operation::JumpOn(_) => Wanted::OnlyRelocatable,
     }
+}
+
+fn address_wanted(length: u32) -> Wanted
+    ensures { λ r. ⌜ r ≡ addressWanted length ⌝ }
+{
+    if length == 2 { Wanted::Any } else { Wanted::OnlyAbsolute }
 }
 
 fn item_no(v: Valued) -> u8
@@ -63,6 +69,7 @@ pub fn expressions_no(op: Operation, x: Operands) -> u8
         Operands::Only(a) => place_no(a),
         Operands::Pair(e, q) => lower_of(refusal_for(first_wanted(op), e), refusal_for(Wanted::OnlyAbsolute, q)),
         Operands::Lone(e) => refusal_for(first_wanted(op), e),
+        Operands::Addresses(_, length, e) => refusal_for(address_wanted(length), e),
         Operands::None => 0,
     }
 }

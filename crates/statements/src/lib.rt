@@ -39,6 +39,8 @@ pub enum Statement {
     Two(Operation, u8, Operand, Operand),
     One(Operation, u8, Operand),
     Jump(u8, u8),
+    // Address constants: copies, their length, their value.
+    Addresses(u32, u32, Value),
     None,
 }
 
@@ -73,6 +75,7 @@ pub fn statement_from(op: Operation, x: Operands, here: u32, bases: Bases) -> St
         Operands::Only(a) => Statement::One(op, q, operand_in(operand_of(bases, a))),
         Operands::Pair(e, _) => jump_of(use_of(op), q, here, value_in(e)),
         Operands::Lone(e) => jump_of(use_of(op), q, here, value_in(e)),
+        Operands::Addresses(copies, length, e) => Statement::Addresses(copies, length, value_in(e)),
         Operands::None => Statement::None,
     }
 }
@@ -94,6 +97,7 @@ pub fn lone_value(x: Operands) -> Value
         Operands::Only(_) => Value::Absolute(Absolute(0)),
         Operands::Pair(_, _) => Value::Absolute(Absolute(0)),
         Operands::Lone(e) => value_in(e),
+        Operands::Addresses(_, _, _) => Value::Absolute(Absolute(0)),
         Operands::None => Value::Absolute(Absolute(0)),
     }
 }

@@ -1,4 +1,6 @@
 // What the expressions of a card's operand come to.
+use data::Data;
+use data::DataType;
 use expressions::Evaluated;
 use expressions::evaluate;
 use expressions::factors::implied_length;
@@ -13,7 +15,7 @@ ghost use Prim.Native.Nat.{_*_, _≤_};
 ghost use lib.ListN.{length};
 ghost use Rattle.names.specs.Names.{find, ascending};
 ghost use Rattle.names.specs.Table.{namesIn};
-ghost use Rattle.statements.specs.Operands.{amountIn, amountOr, itemOf, placeOf, operandsOf};
+ghost use Rattle.statements.specs.Operands.{amountIn, amountOr, itemOf, placeOf, constantOf, operandsOf};
 
 // An item in parentheses, where it is written.
 pub enum Valued {
@@ -37,6 +39,8 @@ pub enum Operands {
     // A jump's target and its Q; a base and its register.
     Pair(Evaluated, Evaluated),
     Lone(Evaluated),
+    // Copies of an address constant, and their length.
+    Addresses(u32, u32, Evaluated),
     None,
 }
 
@@ -85,6 +89,21 @@ fn place_of(a: Address, o: &[u8], table: &[u8], count: usize, here: u32) -> Plac
     }
 }
 
+// The expression of address constants; the other types have none.
+fn constant_of(d: Data, o: &[u8], table: &[u8], count: usize, here: u32) -> Operands
+    requires { ⌜ (16 * count ≤ length (now table)) × (ascending (namesIn count (now table)) ≡ true) ⌝ }
+    ensures { λ r. ⌜ r ≡ constantOf (find (namesIn count (now (table .entry)))) here (now (o .entry)) d ⌝ }
+{
+    let kind = d.kind;
+    let value = d.value;
+    match kind {
+        DataType::Characters => Operands::None,
+        DataType::Hexadecimal => Operands::None,
+        DataType::Decimal => Operands::None,
+        DataType::Address => Operands::Addresses(d.copies, d.length, evaluate(o, value, table, count, here)),
+    }
+}
+
 // Every expression of an operand, evaluated.
 pub fn operands_of(shape: Shape, o: &[u8], table: &[u8], count: usize, here: u32) -> Operands
     requires { ⌜ (16 * count ≤ length (now table)) × (ascending (namesIn count (now table)) ≡ true) ⌝ }
@@ -100,5 +119,7 @@ pub fn operands_of(shape: Shape, o: &[u8], table: &[u8], count: usize, here: u32
         Shape::Two(a, b) => Operands::Two(place_of(a, o, table, count, here), place_of(b, o, table, count, here)),
         Shape::One(a, q) => Operands::One(place_of(a, o, table, count, here), evaluate(o, q, table, count, here)),
         Shape::Only(a) => Operands::Only(place_of(a, o, table, count, here)),
+        Shape::Constant(d) => constant_of(d, o, table, count, here),
+        Shape::Reserve(_) => Operands::None,
     }
 }

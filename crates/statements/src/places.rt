@@ -125,10 +125,11 @@ fn indexed(bases: Bases, v: Value, r: u16) -> Placed
     if r < 1 {
         return Placed::NoBase;
     }
-    if 2 < r {
-        return Placed::NoBase;
+    if r <= 2 {
+        displaced(v, r as u8, base_of(bases, r))
+    } else {
+        Placed::NoBase
     }
-    displaced(v, r as u8, base_of(bases, r))
 }
 
 fn by_register(bases: Bases, v: Value, register: Valued) -> Placed
@@ -224,6 +225,7 @@ pub fn places_no(u: Use, x: Operands, here: u32, bases: Bases) -> u8
         Operands::Only(a) => placed_no(operand_of(bases, a)),
         Operands::Pair(e, last) => use_no(u, here, e, last),
         Operands::Lone(e) => use_no(u, here, e, e),
+        Operands::Addresses(_, _, _) => 0,
         Operands::None => 0,
     }
 }
@@ -252,6 +254,7 @@ fn registered(x: Operands, bases: Bases) -> Bases
         Operands::Only(_) => bases,
         Operands::Pair(e, r) => with_base(bases, amount_in(r), Base::Of(value_in(e))),
         Operands::Lone(r) => with_base(bases, amount_in(r), Base::Idle),
+        Operands::Addresses(_, _, _) => bases,
         Operands::None => bases,
     }
 }
