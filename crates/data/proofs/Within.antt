@@ -9,7 +9,6 @@ use borrow.Author.Tests.{eqb-true, eqb-false}
 use lib.Dec.{eqb}
 use lib.ListN.{length, getD}
 use Rattle.values.specs.Tests.{pick}
-use Rattle.letters.specs.Text.{is}
 use Rattle.letters.proofs.Laws.{inside}
 use Rattle.terms.specs.declared.Quoted.{Quoted}
 use Rattle.terms.specs.declared.Quoted.the-variants.{One, Closed, Nothing}
@@ -30,7 +29,7 @@ use Rattle.data.specs.declared.head.HeadForm.{HeadForm}
 use Rattle.data.specs.declared.value.Extent.{Extent}
 use Rattle.data.specs.Runs.{digitsEndFrom, digitsEnd, told}
 use Rattle.data.specs.Form.{typeOf, copiesBefore, lengthUpTo, lengthAt, headOf, headFrom, headAt, charactersOn, charactersFrom, charactersAt, runUpTo, runAt, addressOf, addressAt, openingOf, openedAt, valueAt, constantData, constantUpTo, constantBehind, constantOf, constantForm, reserveOf, reserveForm}
-use Rattle.data.proofs.Turns.{digit-inside, told-fits}
+use Rattle.data.proofs.Turns.{digit-inside}
 
 -- RUNS OF DIGITS
 

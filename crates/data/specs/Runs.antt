@@ -1,9 +1,8 @@
 -- Runs of digits: "one or more digits, however many".
-use Prim.Native.Nat.{ℕ, zero, suc, _+_, _-_, _*_, min}
+use Prim.Native.Nat.{ℕ, zero, suc, _+_, _-_, min}
 use mathlib.Core.List.{List}
-use lib.ListN.{length, getD}
+use lib.ListN.{length}
 use Rattle.values.specs.Tests.{pick}
-use Rattle.letters.specs.Letters.{digitOf}
 use Rattle.terms.specs.Terms.{digitAt, withDigit}
 
 -- the position behind the digits of a base that stand from a position on; n bounds how many

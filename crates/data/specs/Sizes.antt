@@ -1,8 +1,8 @@
 -- Document 01, "The counter and the data cards": what a value needs, the sizes of DC and DS, and refusal 21.
 use Prim.Native.Nat.{ℕ, _+_, _*_, _/_}
-use mathlib.Core.Bool.{Bool, not}
+use mathlib.Core.Bool.{Bool}
 use lib.Dec.{ltb, leb}
-use Rattle.values.specs.Tests.{pick, both, either}
+use Rattle.values.specs.Tests.{pick, both}
 use Rattle.data.specs.declared.DataType.{DataType}
 use Rattle.data.specs.declared.DataType.the-variants.{Characters, Hexadecimal, Decimal, Address}
 use Rattle.data.specs.declared.Data.{Data}

@@ -4,7 +4,7 @@ use crate::runs::digits_end;
 use crate::runs::number_in;
 use letters::byte_at;
 ghost use mathlib.Core.Path.{_≡_};
-ghost use Prim.Native.Nat.{_+_, _<_, _^_};
+ghost use Prim.Native.Nat.{_+_};
 ghost use Rattle.data.specs.Form.{typeOf, copiesBefore, lengthAt, headAt};
 
 pub enum Typed {

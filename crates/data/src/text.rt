@@ -111,8 +111,9 @@ fn put_characters(o: &[u8], d: Data, m: &mut [u8], to: usize)
     let at = d.value;
     let count = d.count as usize;
     let rest = d.length as usize - count;
+    let behind = to + count;
     put_codes(o, at, count, m, to);
-    put_fill(m, to + count, rest, 0x40);
+    put_fill(m, behind, rest, 0x40);
 }
 
 // Zeros on the left.
@@ -122,9 +123,11 @@ fn put_hexadecimal(o: &[u8], d: Data, m: &mut [u8], to: usize)
 {
     let at = d.value;
     let count = d.count as usize;
-    let rest = d.length as usize - half_up(d.count) as usize;
+    let needed = half_up(d.count) as usize;
+    let rest = d.length as usize - needed;
+    let digits = to + rest;
     put_fill(m, to, rest, 0);
-    put_hex(o, at, count, m, to + rest);
+    put_hex(o, at, count, m, digits);
 }
 
 // F0 on the left.
@@ -135,8 +138,9 @@ fn put_decimal(o: &[u8], d: Data, m: &mut [u8], to: usize)
     let at = d.value;
     let count = d.count as usize;
     let rest = d.length as usize - count;
+    let behind = to + rest;
     put_fill(m, to, rest, 0xF0);
-    put_codes(o, at, count, m, to + rest);
+    put_codes(o, at, count, m, behind);
 }
 
 // One copy.

@@ -1,51 +1,34 @@
-use mathlib.Core.Bool.{true, false}
-use native.Mathlib.Omega.{arith}
-use mathlib.Core.Path.{_≡_, refl, sym, ap, _∙_}
+-- `text::put_decimal` meets its contract: two runs stored in a row.
+use mathlib.Core.Path.{sym, ap}
 use borrow.Author.Needs.{needs}
-use lib.Seq.{sets}
-use lib.ListN.{length, getD, set, replicate, length-set, length-replicate}
-use native.Mathlib.Nat.{add-zero, sub-zero}
-use native.Mathlib.Numerals.{add-one}
-use mathlib.Core.List.{_∷_}
-use Prim.Native.Nat.{ℕ, suc, _+_, _-_, _*_, _≤_, _<_}
-use Rattle.data.specs.Text.{codesFrom, charactersText, decimalText}
-use Rattle.data.proofs.Texts.{then, codes-length}
+use lib.ListN.{length, replicate, length-replicate}
+use Prim.Native.Nat.{_+_, _-_}
+use Rattle.data.specs.Text.{codesFrom, decimalText}
+use Rattle.data.proofs.Texts.{then}
 use Rattle.data.proofs.text.put_decimal.Statement.{statement}
 use Rattle.data.proofs.text.put_decimal.Tie as tie
-use Rattle.data.proofs.text.put_decimal.Reads as reads
-use Rattle.data.proofs.text.put_decimal.Lts as lts
-use Rattle.data.proofs.text.put_codes.Reads as put-codes-reads
-use Rattle.data.proofs.text.put_fill.Reads as put-fill-reads
 
--- src/text.rt:136:17
 cast-count : tie.Need-cast-count
 cast-count c = search needs
 
--- src/text.rt:137:16
 cast-rest : tie.Need-cast-rest
 cast-rest c = search needs
 
--- src/text.rt:137:16
 sub-rest : tie.Need-sub-rest
 sub-rest c = search needs
 
--- src/text.rt:138:5
+add-behind : tie.Need-add-behind
+add-behind c = search needs
+
 put-fill-requires : tie.Need-put-fill-requires
 put-fill-requires c κs = search needs
 
--- src/text.rt:139:32
-add-put-codes : tie.Need-add-put-codes
-add-put-codes c = search needs
-
--- src/text.rt:139:5
 put-codes-requires : tie.Need-put-codes-requires
 put-codes-requires c κs = search needs
 
--- src/text.rt:131:1
 same-length : tie.Need-same-length
 same-length c = search needs
 
--- src/text.rt:131:1
 returns : tie.Need-returns
 unfolding decimalText
 returns c = then (c .before .before .before .before .before .before .before .before .before .before .before .before .args .m .now) (c .before .before .before .before .before .before .put-fill .last .0) (c .before .before .put-codes .last .1 .1 .1 .0) (c .before .before .before .before .before .before .before .before .before .before .before .before .args .to) (c .before .before .before .before .before .before .before .before .before .before .before .before .args .to + (c .before .before .before .before .before .before .before .before .before .before .before .before .args .d .length - c .before .before .before .before .before .before .before .before .before .before .before .before .args .d .count)) (replicate (c .before .before .before .before .before .before .before .before .before .before .before .before .args .d .length - c .before .before .before .before .before .before .before .before .before .before .before .before .args .d .count) 0xF0) (codesFrom (c .before .before .before .before .before .before .before .before .before .before .before .before .args .d .count) (c .before .before .before .before .before .before .before .before .before .before .before .before .args .o .now) (c .before .before .before .before .before .before .before .before .before .before .before .before .args .d .value)) (c .before .before .before .before .before .before .put-fill .ensures) (ap (λ k. c .before .before .before .before .before .before .before .before .before .before .before .before .args .to + k) (sym (length-replicate (c .before .before .before .before .before .before .before .before .before .before .before .before .args .d .length - c .before .before .before .before .before .before .before .before .before .before .before .before .args .d .count) 0xF0))) (c .before .before .put-codes .ensures)
@@ -57,8 +40,8 @@ put-decimal-spec =
     cast-count
     cast-rest
     sub-rest
+    add-behind
     put-fill-requires
-    add-put-codes
     put-codes-requires
     same-length
     returns)

@@ -1,19 +1,13 @@
-use mathlib.Core.Bool.{true, false}
+-- `text::put_fill` meets its contract. The invariant: storing all bytes is storing those left, from the place now.
 use native.Mathlib.Omega.{arith}
-use mathlib.Core.Path.{_≡_, refl, sym, ap, _∙_}
-use borrow.Author.Needs.{needs}
+use mathlib.Core.Path.{_≡_, refl, sym, _∙_}
 use lib.Seq.{sets}
-use lib.ListN.{length, getD, set, replicate, length-set, length-replicate}
+use lib.ListN.{length, replicate, length-set}
 use native.Mathlib.Nat.{add-zero, sub-zero}
-use native.Mathlib.Numerals.{add-one}
-use mathlib.Core.List.{_∷_}
-use Prim.Native.Nat.{ℕ, suc, _+_, _-_, _*_, _≤_, _<_}
-use Rattle.data.specs.Text.{codesFrom, pairsFrom}
-use Rattle.data.proofs.Texts.{store-more, codes-more, pairs-more, fill-more, codes-done, pairs-done, fill-done}
+use Prim.Native.Nat.{_+_, _-_, _≤_}
+use Rattle.data.proofs.Texts.{store-more, fill-more, fill-done}
 use Rattle.data.proofs.text.put_fill.Statement.{statement}
 use Rattle.data.proofs.text.put_fill.Tie as tie
-use Rattle.data.proofs.text.put_fill.Reads as reads
-use Rattle.data.proofs.text.put_fill.Lts as lts
 
 abbrev Inv-loop : tie.InvT-loop
 Inv-loop m₀ to n b i₀ m i = (i ≤ n) × (length m ≡ length m₀) × (sets m₀ to (replicate n b) ≡ sets m (to + i) (replicate (n - i) b))
@@ -21,35 +15,27 @@ Inv-loop m₀ to n b i₀ m i = (i ≤ n) × (length m ≡ length m₀) × (sets
 abbrev μ-loop : tie.MeasureT-loop
 μ-loop m₀ to n b i₀ m i = n - i
 
--- src/text.rt:100:5
 loop-holds : tie.Need-loop-holds Inv-loop μ-loop
 loop-holds c = (omega arith, refl, rw (add-zero, sub-zero))
 
--- src/text.rt:101:11
 add-m : tie.Need-add-m Inv-loop μ-loop
 add-m c = omega arith
 
--- src/text.rt:101:9
 slice-write-m : tie.Need-slice-write-m Inv-loop μ-loop
 slice-write-m c = omega arith
 
--- src/text.rt:102:9
 add-i : tie.Need-add-i Inv-loop μ-loop
 add-i c = omega arith
 
--- src/text.rt:100:5
 loop-less : tie.Need-loop-less Inv-loop μ-loop
 loop-less c = omega arith
 
--- src/text.rt:100:5
 loop-again : tie.Need-loop-again Inv-loop μ-loop
 loop-again c = (omega arith, simp length-set (c .before .loop .inv .1), c .before .loop .inv .2 ∙ store-more (c .before .loop .m) (c .before .before .args .to) (c .before .loop .i) (c .before .before .args .b) (replicate (c .before .before .args .n - c .before .loop .i) (c .before .before .args .b)) (replicate (c .before .before .args .n - (c .before .loop .i + 1)) (c .before .before .args .b)) (fill-more (c .before .before .args .n) (c .before .loop .i) (c .before .before .args .b) (c .loop-test .taken)))
 
--- src/text.rt:95:1
 same-length : tie.Need-same-length Inv-loop μ-loop
 same-length c = c .before .loop .inv .1
 
--- src/text.rt:95:1
 returns : tie.Need-returns Inv-loop μ-loop
 returns c = sym (c .before .loop .inv .2 ∙ fill-done (c .before .loop .m) (c .before .before .args .to + c .before .loop .i) (c .before .before .args .n) (c .before .loop .i) (c .before .before .args .b) (omega arith))
 

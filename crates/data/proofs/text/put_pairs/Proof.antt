@@ -1,20 +1,14 @@
-use mathlib.Core.Bool.{true, false}
+-- `text::put_pairs` meets its contract. The invariant: storing all pairs is storing those left, from the place now.
 use native.Mathlib.Omega.{arith}
-use mathlib.Core.Path.{_≡_, refl, sym, ap, _∙_}
-use borrow.Author.Needs.{needs}
+use mathlib.Core.Path.{_≡_, refl, sym, _∙_}
 use lib.Seq.{sets}
-use lib.ListN.{length, getD, set, replicate, length-set, length-replicate}
+use lib.ListN.{length, length-set}
 use native.Mathlib.Nat.{add-zero, sub-zero}
-use native.Mathlib.Numerals.{add-one}
-use mathlib.Core.List.{_∷_}
-use Prim.Native.Nat.{ℕ, suc, _+_, _-_, _*_, _≤_, _<_}
-use Rattle.data.specs.Text.{codesFrom, pairsFrom}
-use Rattle.data.proofs.Texts.{store-more, codes-more, pairs-more, fill-more, codes-done, pairs-done, fill-done}
+use Prim.Native.Nat.{_+_, _-_, _*_, _≤_}
+use Rattle.data.specs.Text.{pairsFrom}
+use Rattle.data.proofs.Texts.{store-more, pairs-more, pairs-done}
 use Rattle.data.proofs.text.put_pairs.Statement.{statement}
 use Rattle.data.proofs.text.put_pairs.Tie as tie
-use Rattle.data.proofs.text.put_pairs.Reads as reads
-use Rattle.data.proofs.text.put_pairs.Lts as lts
-use Rattle.data.proofs.text.pair_at.Reads as pair-at-reads
 
 abbrev Inv-loop : tie.InvT-loop
 Inv-loop o at n m₀ to p₀ i₀ m p i = (i ≤ n) × (length m ≡ length m₀) × (sets m₀ to (pairsFrom n o at) ≡ sets m (to + i) (pairsFrom (n - i) o p)) × (p ≡ at + 2 * i)
@@ -22,43 +16,33 @@ Inv-loop o at n m₀ to p₀ i₀ m p i = (i ≤ n) × (length m ≡ length m₀
 abbrev μ-loop : tie.MeasureT-loop
 μ-loop o at n m₀ to p₀ i₀ m p i = n - i
 
--- src/text.rt:72:5
 loop-holds : tie.Need-loop-holds Inv-loop μ-loop
 loop-holds c = (omega arith, refl, rw (add-zero, sub-zero), omega arith)
 
--- src/text.rt:73:13
 pair-at-requires : tie.Need-pair-at-requires Inv-loop μ-loop
 pair-at-requires c κs = omega arith
 
--- src/text.rt:74:9
 add-p : tie.Need-add-p Inv-loop μ-loop
 add-p c = omega arith
 
--- src/text.rt:75:11
 add-m : tie.Need-add-m Inv-loop μ-loop
 add-m c = omega arith
 
--- src/text.rt:75:9
 slice-write-m : tie.Need-slice-write-m Inv-loop μ-loop
 slice-write-m c = omega arith
 
--- src/text.rt:76:9
 add-i : tie.Need-add-i Inv-loop μ-loop
 add-i c = omega arith
 
--- src/text.rt:72:5
 loop-less : tie.Need-loop-less Inv-loop μ-loop
 loop-less c = omega arith
 
--- src/text.rt:72:5
 loop-again : tie.Need-loop-again Inv-loop μ-loop
 loop-again c = (omega arith, simp length-set (c .before .before .loop .inv .1), c .before .before .loop .inv .2 ∙ store-more (c .before .before .loop .m) (c .before .before .before .before .before .args .to) (c .before .before .loop .i) (c .pair-at .result) (pairsFrom (c .before .before .before .before .before .args .n - c .before .before .loop .i) (c .before .before .before .before .before .args .o .now) (c .before .before .loop .p)) (pairsFrom (c .before .before .before .before .before .args .n - (c .before .before .loop .i + 1)) (c .before .before .before .before .before .args .o .now) (c .before .before .loop .p + 2)) (rw (c .pair-at .ensures) (pairs-more (c .before .before .before .before .before .args .n) (c .before .before .loop .i) (c .before .before .before .before .before .args .o .now) (c .before .before .loop .p) (c .before .loop-test .taken))), omega arith)
 
--- src/text.rt:66:1
 same-length : tie.Need-same-length Inv-loop μ-loop
 same-length c = c .before .loop .inv .1
 
--- src/text.rt:66:1
 returns : tie.Need-returns Inv-loop μ-loop
 returns c = sym (c .before .loop .inv .2 ∙ pairs-done (c .before .loop .m) (c .before .before .before .before .args .to + c .before .loop .i) (c .before .before .before .before .args .n) (c .before .loop .i) (c .before .before .before .before .args .o .now) (c .before .loop .p) (omega arith))
 
