@@ -13,11 +13,15 @@ use Rattle.expressions.specs.declared.form.Form.the-variants.{Ends, Fails as Fo
 use Rattle.expressions.specs.Form.{formOf, expressionAt}
 use Rattle.operations.specs.declared.Operation.{Operation}
 use Rattle.operations.specs.declared.Operation.the-variants.{Unknown, Start, Equ, Org, Dc, Ds, Using, Drop, End, Decimal, Characters, Move, MoveOf, OneAddress, Branch, LoadAddress, BranchOn, Jump, JumpOn}
+use Rattle.data.specs.declared.DataForm.{DataForm}
+use Rattle.data.specs.declared.DataForm.the-variants.{Fails as DataFails, Of}
+use Rattle.data.specs.Form.{constantForm, reserveForm}
+use Rattle.data.specs.declared.Data.{Data}
 use Rattle.forms.specs.declared.Item.{Item}
 use Rattle.forms.specs.declared.Item.the-variants.{Absent, At}
 use Rattle.forms.specs.declared.Address.{Address}
 use Rattle.forms.specs.declared.Shape.{Shape}
-use Rattle.forms.specs.declared.Shape.the-variants.{Fails, Nothing, StartAt, Expression, Pair, Target, Two, One, Only}
+use Rattle.forms.specs.declared.Shape.the-variants.{Fails, Nothing, StartAt, Expression, Pair, Target, Two, One, Only, Constant, Reserve}
 use Rattle.forms.specs.declared.Lengths.{Lengths}
 use Rattle.forms.specs.declared.Lengths.the-variants.{OnEach, OnOne, OnExactlyOne, OnNone}
 use Rattle.forms.specs.declared.reading.Written.{Written}
@@ -105,14 +109,25 @@ oneShape o = behindAddressed (addressAt OnlyRegister o 0) (λ a q. behindComma o
 unfoldable pub onlyShape : List ℕ → Shape
 onlyShape o = behindAddressed (addressAt OnlyRegister o 0) (λ a q. ended o q (Only a))
 
+-- DC and DS
+abbrev pub behindData : DataForm → (Data → Shape) → Shape
+behindData (Of d) on = on d
+behindData (DataFails q) on = Fails q
+
+unfoldable pub constantShape : List ℕ → Shape
+constantShape o = behindData (constantForm o) Constant
+
+unfoldable pub reserveShape : List ℕ → Shape
+reserveShape o = behindData (reserveForm o) Reserve
+
 -- the shape of an operation's operand; an unknown operation has none
 abbrev pub shapeOf : Operation → List ℕ → Shape
 shapeOf Unknown o = Fails 0
 shapeOf Start o = startShape o
 shapeOf Equ o = lastAt o 0 Expression
 shapeOf Org o = lastAt o 0 Expression
-shapeOf Dc o = Fails 0
-shapeOf Ds o = Fails 0
+shapeOf Dc o = constantShape o
+shapeOf Ds o = reserveShape o
 shapeOf Using o = pairShape o
 shapeOf Drop o = lastAt o 0 Expression
 shapeOf End o = endShape o

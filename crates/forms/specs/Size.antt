@@ -1,11 +1,12 @@
--- Document 01, "Instructions": the bytes of an instruction, by its form.
+-- Document 01, "Instructions": the bytes of a card, by its form.
 use Prim.Native.Nat.{ℕ, _+_}
 use Rattle.operations.specs.declared.Operation.{Operation}
 use Rattle.operations.specs.declared.Operation.the-variants.{Unknown, Start, Equ, Org, Dc, Ds, Using, Drop, End, Decimal, Characters, Move, MoveOf, OneAddress, Branch, LoadAddress, BranchOn, Jump, JumpOn}
+use Rattle.data.specs.Sizes.{dataSize}
 use Rattle.forms.specs.declared.Item.{Item}
 use Rattle.forms.specs.declared.Item.the-variants.{Absent, At}
 use Rattle.forms.specs.declared.Shape.{Shape}
-use Rattle.forms.specs.declared.Shape.the-variants.{Fails, Nothing, StartAt, Expression, Pair, Target, Two, One, Only}
+use Rattle.forms.specs.declared.Shape.the-variants.{Fails, Nothing, StartAt, Expression, Pair, Target, Two, One, Only, Constant, Reserve}
 
 -- "Direct takes two bytes, indexed one": an address by its register
 abbrev pub addressSize : Item → ℕ
@@ -34,7 +35,7 @@ pairSize (BranchOn q) = 0
 pairSize Jump = 3
 pairSize (JumpOn q) = 0
 
--- the operation byte, Q and the addresses; a jump's operation byte, Q and its one byte; 0 for the assembler's own cards
+-- the operation byte, Q and the addresses; a jump's operation byte, Q and its one byte; all copies of DC and DS; 0 for the assembler's other cards
 abbrev pub sizeOf : Operation → Shape → ℕ
 sizeOf op (Fails q) = 0
 sizeOf op Nothing = 0
@@ -45,3 +46,5 @@ sizeOf op Target = 3
 sizeOf op (Two a b) = 2 + addressSize (a .register) + addressSize (b .register)
 sizeOf op (One a p) = 2 + addressSize (a .register)
 sizeOf op (Only a) = 2 + addressSize (a .register)
+sizeOf op (Constant d) = dataSize d
+sizeOf op (Reserve d) = dataSize d

@@ -2,6 +2,8 @@
 // An operand is a slice of its own, positions count from 0, and an absent operand is empty.
 pub mod reading;
 
+use data::Data;
+use data::DataForm;
 use reading::Addressed;
 use reading::Written;
 use reading::address_at;
@@ -13,7 +15,7 @@ use terms::Term;
 ghost use mathlib.Core.Path.{_≡_};
 ghost use Prim.Native.Nat.{_≤_};
 ghost use lib.ListN.{length};
-ghost use Rattle.forms.specs.Shape.{ended, lastAt, startTerm, startOf, startShape, endShape, pairShape, unlessThere, firstWritten, secondWritten, twoOf, twoShape, oneShape, onlyShape, shapeOf};
+ghost use Rattle.forms.specs.Shape.{ended, lastAt, startTerm, startOf, startShape, endShape, pairShape, unlessThere, firstWritten, secondWritten, twoOf, twoShape, oneShape, onlyShape, constantShape, reserveShape, shapeOf};
 ghost use Rattle.forms.specs.Size.{addressSize, pairSize, sizeOf};
 
 // An item in parentheses: where its expression starts, if it is written.
@@ -47,6 +49,9 @@ pub enum Shape {
     One(Address, usize),
     // An extended branch.
     Only(Address),
+    // DC and DS.
+    Constant(Data),
+    Reserve(Data),
 }
 
 // On how many of two addresses a length, or MVX's item, is written.
@@ -211,6 +216,24 @@ fn only_shape(o: &[u8]) -> Shape
     }
 }
 
+fn constant_shape(o: &[u8]) -> Shape
+    ensures { λ r. ⌜ r ≡ constantShape (now (o .entry)) ⌝ }
+{
+    match data::constant_form(o) {
+        DataForm::Fails(q) => Shape::Fails(q),
+        DataForm::Of(d) => Shape::Constant(d),
+    }
+}
+
+fn reserve_shape(o: &[u8]) -> Shape
+    ensures { λ r. ⌜ r ≡ reserveShape (now (o .entry)) ⌝ }
+{
+    match data::reserve_form(o) {
+        DataForm::Fails(q) => Shape::Fails(q),
+        DataForm::Of(d) => Shape::Reserve(d),
+    }
+}
+
 // The shape of an operation's operand.
 pub fn shape_of(o: &[u8], op: Operation) -> Shape
     ensures { λ r. ⌜ r ≡ shapeOf op (now (o .entry)) ⌝ }
@@ -220,8 +243,8 @@ pub fn shape_of(o: &[u8], op: Operation) -> Shape
         Operation::Start => start_shape(o),
         Operation::Equ => last_at(o, 0, Shape::Expression),
         Operation::Org => last_at(o, 0, Shape::Expression),
-        Operation::Dc => Shape::Fails(0),
-        Operation::Ds => Shape::Fails(0),
+        Operation::Dc => constant_shape(o),
+        Operation::Ds => reserve_shape(o),
         Operation::Using => pair_shape(o),
         Operation::Drop => last_at(o, 0, Shape::Expression),
         Operation::End => end_shape(o),
@@ -275,7 +298,7 @@ fn pair_size(op: Operation) -> usize
     }
 }
 
-// The bytes of an instruction; 0 for the assembler's own cards.
+// The bytes of an instruction, a DC or a DS; 0 for the assembler's other cards.
 pub fn size_of(op: Operation, x: Shape) -> usize
     ensures { λ r. ⌜ r ≡ sizeOf op x ⌝ }
 {
@@ -289,5 +312,7 @@ pub fn size_of(op: Operation, x: Shape) -> usize
         Shape::Two(a, b) => 2 + address_size(a) + address_size(b),
         Shape::One(a, _) => 2 + address_size(a),
         Shape::Only(a) => 2 + address_size(a),
+        Shape::Constant(d) => data::sizes::data_size(d),
+        Shape::Reserve(d) => data::sizes::data_size(d),
     }
 }

@@ -1,0 +1,270 @@
+-- What callers cite of a shape: every position in it is one of an expression that ends inside the operand; a refusal's place is inside or at the end; which items can be there.
+use Prim.{Unit, tt}
+use Prim.Native.Nat.{ℕ, _+_, _≤_, _<_}
+use mathlib.Core.List.{List}
+use mathlib.Core.Bool.{Bool, true, false}
+use mathlib.Core.Path.{_≡_, refl, sym, ap, _∙_}
+use native.Mathlib.Omega.{arith}
+use lib.ListN.{length, getD}
+use lib.Dec.{ltb, eqb}
+use borrow.Author.Tests.{ltb-true, eqb-true}
+use Rattle.values.specs.Tests.{pick}
+use Rattle.terms.specs.declared.Term.{Term}
+use Rattle.terms.specs.declared.Term.the-variants.{Number, Symbol, Here, Bad}
+use Rattle.letters.specs.declared.Class.{Class}
+use Rattle.letters.specs.declared.Class.the-variants.{Letter}
+use Rattle.letters.specs.Letters.{classOf}
+use Rattle.letters.specs.Text.{isFromTo}
+use Rattle.terms.specs.Terms.{stands, decimalAt, hexAt, letteredAt, termOf, termAt}
+use Rattle.terms.proofs.Within.{Within, stands-inside, decimal-within, term-within}
+use Rattle.expressions.specs.declared.form.Form.{Form}
+use Rattle.expressions.specs.declared.form.Form.the-variants.{Ends, Fails as FormFails}
+use Rattle.expressions.specs.Form.{formOf, expressionAt}
+use Rattle.expressions.proofs.Reading.{Reaches, expression-reaches}
+use Rattle.operations.specs.declared.Operation.{Operation}
+use Rattle.operations.specs.declared.Operation.the-variants.{Unknown, Start, Equ, Org, Dc, Ds, Using, Drop, End, Decimal, Characters, Move, MoveOf, OneAddress, Branch, LoadAddress, BranchOn, Jump, JumpOn}
+use Rattle.forms.specs.declared.Item.{Item}
+use Rattle.forms.specs.declared.Item.the-variants.{Absent, At}
+use Rattle.forms.specs.declared.Address.{Address}
+use Rattle.forms.specs.declared.Shape.{Shape}
+use Rattle.forms.specs.declared.Shape.the-variants.{Fails, Nothing, StartAt, Expression, Pair, Target, Two, One, Only}
+use Rattle.forms.specs.declared.Lengths.{Lengths}
+use Rattle.forms.specs.declared.Lengths.the-variants.{OnEach, OnOne, OnExactlyOne, OnNone}
+use Rattle.forms.specs.declared.reading.Written.{Written}
+use Rattle.forms.specs.declared.reading.Written.the-variants.{MayHaveLength, HasLength, NoLength, OnlyRegister}
+use Rattle.forms.specs.declared.reading.Addressed.{Addressed}
+use Rattle.forms.specs.declared.reading.Addressed.the-variants.{Reads, Stops}
+use Rattle.forms.specs.Address.{address, behind, closed, registerAt, behindLength, lengthAt, orRegister, itemsAt, plain, behindAddress, addressAt}
+use Rattle.forms.specs.Shape.{ended, behindForm, behindAddressed, behindComma, lastAt, startTerm, startOf, startShape, endShape, pairShape, firstWritten, secondWritten, twoOf, twoShape, oneShape, onlyShape, shapeOf}
+
+-- WHAT IS KNOWN OF A SHAPE
+
+-- an expression stands at a position, and ends inside the operand
+pub record Expressed (o : List ℕ) (p : ℕ) : Type 0 where
+  pub end : ℕ
+  pub reads : formOf (expressionAt o p) ≡ Ends end
+  pub starts : p < end
+  pub inside : end ≤ length o
+
+abbrev pub ItemIn : List ℕ → Item → Type 0
+ItemIn o Absent = Unit {0}
+ItemIn o (At p) = Expressed o p
+
+abbrev pub AddressIn : List ℕ → Address → Type 0
+AddressIn o a = (Expressed o (a .at)) × (ItemIn o (a .length)) × (ItemIn o (a .register))
+
+abbrev pub ShapeIn : List ℕ → Shape → Type 0
+ShapeIn o (Fails q) = q ≤ length o
+ShapeIn o Nothing = length o ≡ 0
+ShapeIn o (StartAt v) = v < 65536
+ShapeIn o Expression = Expressed o 0
+ShapeIn o (Pair p) = (Expressed o 0) × (Expressed o p)
+ShapeIn o Target = Expressed o 0
+ShapeIn o (Two a b) = (AddressIn o a) × (AddressIn o b)
+ShapeIn o (One a p) = (AddressIn o a) × (Expressed o p)
+ShapeIn o (Only a) = AddressIn o a
+
+-- ADDRESSES
+
+abbrev AddressedIn : List ℕ → Addressed → Type 0
+AddressedIn o (Reads a q) = (AddressIn o a) × (q ≤ length o)
+AddressedIn o (Stops q) = q ≤ length o
+
+-- what an expression's form says
+abbrev FormIn : List ℕ → ℕ → Form → Type 0
+FormIn o p (Ends q) = (Expressed o p) × (q ≤ length o)
+FormIn o p (FormFails q) = q ≤ length o
+
+expression-in : (o : List ℕ) (p : ℕ) → p ≤ length o → FormIn o p (formOf (expressionAt o p))
+expression-in o p h = go (formOf (expressionAt o p)) refl (expression-reaches o p)
+  where
+    go : (f : Form) → formOf (expressionAt o p) ≡ f → Reaches o p f → FormIn o p f
+    go (Ends q) e w = (record { end = q; reads = e; starts = w .0; inside = w .1 }, w .1)
+    go (FormFails q) e w = w .1 h
+
+behind-in : (o : List ℕ) (p : ℕ) → p ≤ length o → (on : ℕ → Addressed) → ((q : ℕ) → Expressed o p → q ≤ length o → AddressedIn o (on q))
+    → AddressedIn o (behind (formOf (expressionAt o p)) on)
+behind-in o p h on i = go (formOf (expressionAt o p)) (expression-in o p h)
+  where
+    go : (f : Form) → FormIn o p f → AddressedIn o (behind f on)
+    go (Ends q) w = i q (w .0) (w .1)
+    go (FormFails q) w = w
+
+closed-in : (o : List ℕ) (q : ℕ) (a : Address) → q ≤ length o → AddressIn o a → AddressedIn o (closed o q a)
+unfolding closed
+closed-in o q a h i = go (stands ")" o q) refl
+  where
+    go : (b : Bool) → stands ")" o q ≡ b → AddressedIn o (pick b (Reads a (q + 1)) (Stops q))
+    go true e = (i, omega (arith, stands-inside 41 o q (omega arith) e))
+    go false e = h
+
+module _ (o : List ℕ) (at : ℕ) (x : Expressed o at) where
+  register-in : (l : Item) (p : ℕ) → ItemIn o l → p ≤ length o → AddressedIn o (registerAt o at l p)
+  unfolding registerAt
+  register-in l p i h = behind-in o p h (λ q. closed o q (address at l (At p))) (λ q e k. closed-in o q (address at l (At p)) k (x, i, e))
+
+  length-in : (p : ℕ) → p ≤ length o → AddressedIn o (lengthAt o at p)
+  unfolding lengthAt behindLength
+  length-in p h = behind-in o p h (λ q. behindLength o at p q) (λ q e k. go q e k (stands "," o q) refl)
+    where
+      go : (q : ℕ) → Expressed o p → q ≤ length o → (b : Bool) → stands "," o q ≡ b
+          → AddressedIn o (pick b (registerAt o at (At p) (q + 1)) (closed o q (address at (At p) Absent)))
+      go q e k true c = register-in (At p) (q + 1) e (omega (arith, stands-inside 44 o q (omega arith) c))
+      go q e k false c = closed-in o q (address at (At p) Absent) k (x, e, tt)
+
+  or-register-in : (p : ℕ) (other : Addressed) → AddressedIn o other → AddressedIn o (orRegister o at p other)
+  unfolding orRegister
+  or-register-in p other i = go (stands "," o p) refl
+    where
+      go : (b : Bool) → stands "," o p ≡ b → AddressedIn o (pick b (registerAt o at Absent (p + 1)) other)
+      go true c = register-in Absent (p + 1) tt (omega (arith, stands-inside 44 o p (omega arith) c))
+      go false c = i
+
+  items-in : (w : Written) (p : ℕ) → p ≤ length o → AddressedIn o (itemsAt w o at p)
+  items-in MayHaveLength p h = or-register-in p (lengthAt o at p) (length-in p h)
+  items-in HasLength p h = length-in p h
+  items-in NoLength p h = or-register-in p (Stops p) h
+  items-in OnlyRegister p h = or-register-in p (registerAt o at Absent p) (register-in Absent p tt h)
+
+  plain-in : (w : Written) (q : ℕ) → q ≤ length o → AddressedIn o (plain w at q)
+  plain-in MayHaveLength q h = ((x, tt, tt), h)
+  plain-in HasLength q h = h
+  plain-in NoLength q h = ((x, tt, tt), h)
+  plain-in OnlyRegister q h = ((x, tt, tt), h)
+
+  behind-address-in : (w : Written) (q : ℕ) → q ≤ length o → AddressedIn o (behindAddress w o at q)
+  unfolding behindAddress
+  behind-address-in w q h = go (stands "(" o q) refl
+    where
+      go : (b : Bool) → stands "(" o q ≡ b → AddressedIn o (pick b (itemsAt w o at (q + 1)) (plain w at q))
+      go true c = items-in w (q + 1) (omega (arith, stands-inside 40 o q (omega arith) c))
+      go false c = plain-in w q h
+
+address-in : (w : Written) (o : List ℕ) (at : ℕ) → at ≤ length o → AddressedIn o (addressAt w o at)
+unfolding addressAt
+address-in w o at h = behind-in o at h (λ q. behindAddress w o at q) (λ q e k. behind-address-in o at e w q k)
+
+-- SHAPES
+
+ended-in : (o : List ℕ) (q : ℕ) (x : Shape) → ShapeIn o x → ShapeIn o (ended o q x)
+unfolding ended
+ended-in o q x i = go (ltb q (length o)) refl
+  where
+    go : (b : Bool) → ltb q (length o) ≡ b → ShapeIn o (pick b (Fails q) x)
+    go true e = omega (arith, ltb-true q (length o) e)
+    go false e = i
+
+behind-form-in : (o : List ℕ) (p : ℕ) → p ≤ length o → (on : ℕ → Shape) → ((q : ℕ) → Expressed o p → q ≤ length o → ShapeIn o (on q))
+    → ShapeIn o (behindForm (formOf (expressionAt o p)) on)
+behind-form-in o p h on i = go (formOf (expressionAt o p)) (expression-in o p h)
+  where
+    go : (f : Form) → FormIn o p f → ShapeIn o (behindForm f on)
+    go (Ends q) w = i q (w .0) (w .1)
+    go (FormFails q) w = w
+
+behind-addressed-in : (o : List ℕ) (x : Addressed) (on : Address → ℕ → Shape) → AddressedIn o x
+    → ((a : Address) (q : ℕ) → AddressIn o a → q ≤ length o → ShapeIn o (on a q)) → ShapeIn o (behindAddressed x on)
+behind-addressed-in o (Reads a q) on w i = i a q (w .0) (w .1)
+behind-addressed-in o (Stops q) on w i = w
+
+comma-in : (o : List ℕ) (q : ℕ) (on : ℕ → Shape) → q ≤ length o → ((p : ℕ) → p ≤ length o → ShapeIn o (on p)) → ShapeIn o (behindComma o q on)
+comma-in o q on h i = go (stands "," o q) refl
+  where
+    go : (b : Bool) → stands "," o q ≡ b → ShapeIn o (pick b (on (q + 1)) (Fails q))
+    go true e = i (q + 1) (omega (arith, stands-inside 44 o q (omega arith) e))
+    go false e = h
+
+last-in : (o : List ℕ) (p : ℕ) (x : Shape) → p ≤ length o → (Expressed o p → ShapeIn o x) → ShapeIn o (lastAt o p x)
+unfolding lastAt
+last-in o p x h i = behind-form-in o p h (λ q. ended o q x) (λ q e k. ended-in o q x (i e))
+
+start-in : (o : List ℕ) (t : Term) → Within o 0 t → ShapeIn o (startOf o t)
+start-in o (Number v q) w = ended-in o q (StartAt v) (w .2)
+start-in o (Symbol k q) w = omega arith
+start-in o (Here q) w = omega arith
+start-in o (Bad q) w = w .1 (omega arith)
+
+-- a hex term is a term
+hex-term : (o : List ℕ) → stands "X" o 0 ≡ true → stands "'" o 1 ≡ true → termAt o 0 ≡ hexAt o 0
+unfolding termAt letteredAt classOf isFromTo
+hex-term o x q =
+    let letter : classOf (getD o 0 0) ≡ Letter = ap classOf (eqb-true (getD o 0 0) 88 x) in
+    ap (termOf o 0) letter ∙ rw (q, x)
+
+start-term-in : (o : List ℕ) → Within o 0 (startTerm o)
+unfolding startTerm
+start-term-in o = go (stands "X" o 0) refl (stands "'" o 1) refl
+  where
+    go : (b : Bool) → stands "X" o 0 ≡ b → (c : Bool) → stands "'" o 1 ≡ c → Within o 0 (pick b (pick c (hexAt o 0) (Bad 1)) (decimalAt o 0))
+    go true e true f = let w = term-within o 0 in rw (hex-term o e f) at w
+    go true e false f = (omega arith, λ l. omega (arith, stands-inside 88 o 0 (omega arith) e))
+    go false e c f = decimal-within o 0
+
+absent-in : (o : List ℕ) (x : Shape) → ShapeIn o x → ShapeIn o (pick (eqb (length o) 0) Nothing x)
+absent-in o x i = go (eqb (length o) 0) refl
+  where
+    go : (b : Bool) → eqb (length o) 0 ≡ b → ShapeIn o (pick b Nothing x)
+    go true e = eqb-true (length o) 0 e
+    go false e = i
+
+start-shape-in : (o : List ℕ) → ShapeIn o (startShape o)
+unfolding startShape
+start-shape-in o = absent-in o (startOf o (startTerm o)) (start-in o (startTerm o) (start-term-in o))
+
+end-shape-in : (o : List ℕ) → ShapeIn o (endShape o)
+unfolding endShape
+end-shape-in o = absent-in o (lastAt o 0 Expression) (last-in o 0 Expression (omega arith) (λ e. e))
+
+pair-in : (o : List ℕ) → ShapeIn o (pairShape o)
+unfolding pairShape
+pair-in o =
+    behind-form-in o 0 (omega arith) (λ q. behindComma o q (λ p. lastAt o p (Pair p)))
+    (λ q e k. comma-in o q (λ p. lastAt o p (Pair p)) k (λ p l. last-in o p (Pair p) l (λ f. (e, f))))
+
+two-of-in : (o : List ℕ) (a : Address) (p : ℕ) (w : Written) → AddressIn o a → p ≤ length o → ShapeIn o (twoOf o a p w)
+unfolding twoOf
+two-of-in o a p w i h =
+    behind-addressed-in o (addressAt w o p) (λ b q. ended o q (Two a b)) (address-in w o p h) (λ b q j k. ended-in o q (Two a b) (i, j))
+
+two-in : (k : Lengths) (o : List ℕ) → ShapeIn o (twoShape k o)
+unfolding twoShape
+two-in k o =
+    behind-addressed-in o (addressAt (firstWritten k) o 0) (λ a q. behindComma o q (λ p. twoOf o a p (secondWritten k (a .length))))
+    (address-in (firstWritten k) o 0 (omega arith))
+    (λ a q i l. comma-in o q (λ p. twoOf o a p (secondWritten k (a .length))) l (λ p m. two-of-in o a p (secondWritten k (a .length)) i m))
+
+one-in : (o : List ℕ) → ShapeIn o (oneShape o)
+unfolding oneShape
+one-in o =
+    behind-addressed-in o (addressAt OnlyRegister o 0) (λ a q. behindComma o q (λ p. lastAt o p (One a p)))
+    (address-in OnlyRegister o 0 (omega arith))
+    (λ a q i l. comma-in o q (λ p. lastAt o p (One a p)) l (λ p m. last-in o p (One a p) m (λ e. (i, e))))
+
+only-in : (o : List ℕ) → ShapeIn o (onlyShape o)
+unfolding onlyShape
+only-in o =
+    behind-addressed-in o (addressAt OnlyRegister o 0) (λ a q. ended o q (Only a))
+    (address-in OnlyRegister o 0 (omega arith))
+    (λ a q i l. ended-in o q (Only a) i)
+
+-- what is known of every shape
+pub shape-in : (op : Operation) (o : List ℕ) → ShapeIn o (shapeOf op o)
+shape-in Unknown o = omega arith
+shape-in Start o = start-shape-in o
+shape-in Equ o = last-in o 0 Expression (omega arith) (λ e. e)
+shape-in Org o = last-in o 0 Expression (omega arith) (λ e. e)
+shape-in Dc o = omega arith
+shape-in Ds o = omega arith
+shape-in Using o = pair-in o
+shape-in Drop o = last-in o 0 Expression (omega arith) (λ e. e)
+shape-in End o = end-shape-in o
+shape-in (Decimal low) o = two-in OnEach o
+shape-in (Characters low) o = two-in OnOne o
+shape-in Move o = two-in OnExactlyOne o
+shape-in (MoveOf item) o = two-in OnNone o
+shape-in (OneAddress low) o = one-in o
+shape-in (Branch low) o = one-in o
+shape-in LoadAddress o = one-in o
+shape-in (BranchOn q) o = only-in o
+shape-in Jump o = pair-in o
+shape-in (JumpOn q) o = last-in o 0 Target (omega arith) (λ e. e)
