@@ -4,13 +4,13 @@ pub mod reading;
 
 use data::Data;
 use data::DataForm;
-use reading::Addressed;
-use reading::Written;
-use reading::address_at;
 use expressions::form::Form;
 use expressions::form::expression_form;
 use letters::byte_at;
 use operations::Operation;
+use reading::Addressed;
+use reading::Written;
+use reading::address_at;
 use terms::Term;
 ghost use mathlib.Core.Path.{_≡_};
 ghost use Prim.Native.Nat.{_≤_};

@@ -39,7 +39,7 @@ fn register_at(s: &[u8], at: usize, l: Item, p: usize) -> Addressed
     ensures { λ r. ⌜ r ≡ registerAt (now (s .entry)) at l p ⌝ }
 {
     match expression_form(s, p) {
-        Form::Fails(q) => Addressed::Stops(q),
+        Form::Fails(place) => Addressed::Stops(place),
         Form::Ends(q) => closed(
             s,
             q,
@@ -58,13 +58,15 @@ fn behind_length(s: &[u8], at: usize, p: usize, q: usize) -> Addressed
     if byte_at(s, q) == b',' {
         return register_at(s, at, Item::At(p), q + 1);
     }
+    let item = Item::At(p);
+    let none = Item::Absent;
     closed(
         s,
         q,
         Address {
             at: at,
-            length: Item::At(p),
-            register: Item::Absent,
+            length: item,
+            register: none,
         },
     )
 }

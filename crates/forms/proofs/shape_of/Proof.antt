@@ -27,8 +27,14 @@ last-at-requires-2 c κs = search needs
 enum-told-5 : tie.Need-enum-told-5
 enum-told-5 c = search needs
 
+constant-shape-requires : tie.Need-constant-shape-requires
+constant-shape-requires c κs = search needs
+
 enum-told-6 : tie.Need-enum-told-6
 enum-told-6 c = search needs
+
+reserve-shape-requires : tie.Need-reserve-shape-requires
+reserve-shape-requires c κs = search needs
 
 enum-told-7 : tie.Need-enum-told-7
 enum-told-7 c = search needs
@@ -121,10 +127,10 @@ returns-4 : tie.Need-returns-4
 returns-4 c = rw (c .before .enum-told4 .given .1) (c .last-at2 .ensures)
 
 returns-5 : tie.Need-returns-5
-returns-5 c = rw (c .enum-told5 .given .1)
+returns-5 c = rw (c .before .enum-told5 .given .1) (c .constant-shape .ensures)
 
 returns-6 : tie.Need-returns-6
-returns-6 c = rw (c .enum-told6 .given .1)
+returns-6 c = rw (c .before .enum-told6 .given .1) (c .reserve-shape .ensures)
 
 returns-7 : tie.Need-returns-7
 returns-7 c = rw (c .before .enum-told7 .given .1) (c .pair-shape .ensures)
@@ -177,7 +183,9 @@ shape-of-spec =
     enum-told-4
     last-at-requires-2
     enum-told-5
+    constant-shape-requires
     enum-told-6
+    reserve-shape-requires
     enum-told-7
     pair-shape-requires
     enum-told-8

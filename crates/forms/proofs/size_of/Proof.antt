@@ -58,6 +58,18 @@ address-size-requires-4 c κs = search needs
 add-result-4 : tie.Need-add-result-4
 add-result-4 c = search needs
 
+enum-known-x-4 : tie.Need-enum-known-x-4
+enum-known-x-4 c = search needs
+
+data-size-requires : tie.Need-data-size-requires
+data-size-requires c κs = search needs
+
+enum-known-x-5 : tie.Need-enum-known-x-5
+enum-known-x-5 c = search needs
+
+data-size-requires-2 : tie.Need-data-size-requires-2
+data-size-requires-2 c κs = search needs
+
 returns : tie.Need-returns
 returns c = rw (c .enum-told .given .1)
 
@@ -85,6 +97,12 @@ returns-8 c = rw (c .before .before .x2 .given .1, sym (c .address-size3 .ensure
 returns-9 : tie.Need-returns-9
 returns-9 c = rw (c .before .before .x3 .given .1, sym (c .address-size4 .ensures .0))
 
+returns-10 : tie.Need-returns-10
+returns-10 c = rw (c .before .before .x4 .given .1) (c .data-size .ensures)
+
+returns-11 : tie.Need-returns-11
+returns-11 c = rw (c .before .before .x5 .given .1) (c .data-size2 .ensures)
+
 pub size-of-spec : {M : Type 1} → statement M
 size-of-spec =
     tie.close
@@ -107,6 +125,10 @@ size-of-spec =
     enum-known-x-3
     address-size-requires-4
     add-result-4
+    enum-known-x-4
+    data-size-requires
+    enum-known-x-5
+    data-size-requires-2
     returns
     returns-2
     returns-3
@@ -115,4 +137,6 @@ size-of-spec =
     returns-6
     returns-7
     returns-8
-    returns-9)
+    returns-9
+    returns-10
+    returns-11)
