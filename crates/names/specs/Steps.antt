@@ -1,12 +1,13 @@
--- What the table's own functions do. Only their contracts cite these.
-use Prim.Native.Nat.{ℕ, suc, _+_, _-_, _/_, _%_}
+-- What the table's own functions do with its bytes.
+use Prim.Native.Nat.{ℕ, suc, _+_, _-_, _*_, _/_, _%_}
 use mathlib.Core.List.{List, [], _∷_, _++_}
 use lib.ListN.{take, drop}
 use lib.Dec.{ltb}
+use lib.Seq.{sets}
 use Rattle.values.specs.Tests.{pick}
 use Rattle.values.specs.Words.{twoBytes, part}
 use Rattle.names.specs.declared.Name.{Name}
-use Rattle.names.specs.Table.{kindOf, amountOf}
+use Rattle.names.specs.Table.{kindOf, amountOf, namesIn}
 
 -- how many names stand before the first whose number is not lower than k
 unfoldable pub below : ℕ → List Name → ℕ
@@ -29,3 +30,9 @@ nameBytes x =
     ∷ x .number % 256
     ∷ kindOf (x .value)
     ∷ (twoBytes (amountOf (x .value)) ++ (twoBytes (x .length) ++ (0 ∷ 0 ∷ 0 ∷ 0 ∷ [])))
+
+-- every byte after a name is defined
+unfoldable pub put : Name → ℕ → List ℕ → List ℕ
+put x count t =
+    let at = 16 * below (x .number) (namesIn count t) in
+    sets (shifted at (16 * count) t) at (nameBytes x)

@@ -13,7 +13,7 @@ ghost use lib.ListN.{length, drop};
 ghost use lib.Seq.{sets};
 ghost use Rattle.names.specs.Names.{find, defined, ascending, nameRefusal};
 ghost use Rattle.names.specs.Table.{valueOf, kindOf, amountOf, numberAt, entryAt, namesIn, zeroed};
-ghost use Rattle.names.specs.Steps.{below, shifted, nameBytes};
+ghost use Rattle.names.specs.Steps.{below, shifted, nameBytes, put};
 
 // A name: its number (six EBCDIC bytes, base 256), what it stands for, its length.
 pub struct Name {
@@ -157,6 +157,7 @@ pub fn define(t: &mut [u8], count: usize, x: Name)
     requires { ⌜ (16 * count + 16 ≤ length (now t)) × (ascending (namesIn count (now t)) ≡ true) × (x .number < 281474976710656) ⌝ }
     ensures { λ _. ⌜ namesIn (count + 1) (now (t .exit)) ≡ defined x (namesIn count (now (t .entry))) ⌝ }
     ensures { λ _. ⌜ drop (16 * count + 16) (now (t .exit)) ≡ drop (16 * count + 16) (now (t .entry)) ⌝ }
+    ensures { λ _. ⌜ now (t .exit) ≡ put x count (now (t .entry)) ⌝ }
 {
     let at = 16 * place(t, count, x.number);
     shift_up(t, at, 16 * count);

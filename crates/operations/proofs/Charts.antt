@@ -5,7 +5,9 @@ use mathlib.Core.Path.{_≡_, refl}
 use mathlib.Core.Bool.{Bool, true, false, not}
 use lib.Dec.{eqb}
 use Rattle.values.specs.Tests.{both, either}
-use Rattle.operations.specs.Rows.{lettersOf, number5, operationIn}
+use Rattle.operations.specs.declared.Operation.{Operation}
+use Rattle.operations.specs.declared.Operation.the-variants.{Branch, Move, Jump}
+use Rattle.operations.specs.Rows.{Row, lettersOf, number5, operationIn}
 use Rattle.operations.specs.Codes.{twoAddress, oneAddress, branch}
 use Rattle.operations.specs.Charts.{Chart, charts, bytesOf}
 use Rattle.operations.specs.Model10.{ownOperations, twoAddresses, oneAddresses, branches, jumps, extendedMoves, extendedBranches, extendedJumps, model10}
@@ -37,3 +39,35 @@ joined (l ∷ ls) = l ++ joined ls
 pub bytes-distinct : distinct (joined (map charted charts)) ≡ true
 unfolding distinct isIn joined charts
 bytes-distinct = refl
+
+-- an extended mnemonic has the operation bytes of the instruction that it stands for
+abbrev pub rowBytes : Row → List ℕ
+rowBytes r = bytesOf (r .operation)
+
+abbrev pub bytesAs : Operation → Row → List ℕ
+bytesAs o r = bytesOf o
+
+pub extended-branches : map rowBytes extendedBranches ≡ map (bytesAs (Branch 0x0)) extendedBranches
+unfolding extendedBranches branch
+extended-branches = refl
+
+pub extended-moves : map rowBytes extendedMoves ≡ map (bytesAs Move) extendedMoves
+unfolding extendedMoves twoAddress
+extended-moves = refl
+
+pub extended-jumps : map rowBytes extendedJumps ≡ map (bytesAs Jump) extendedJumps
+unfolding extendedJumps
+extended-jumps = refl
+
+-- every instruction that isn't an extended one has its chart
+unfoldable pub hasChart : List Chart → Row → Bool
+hasChart [] r = false
+hasChart (c ∷ cs) r = either (eqb (number5 (c .letters)) (number5 (r .letters))) (hasChart cs r)
+
+unfoldable pub allCharted : List Row → Bool
+allCharted [] = true
+allCharted (r ∷ rs) = both (hasChart charts r) (allCharted rs)
+
+pub each-has-a-chart : allCharted (twoAddresses ++ (oneAddresses ++ (branches ++ jumps))) ≡ true
+unfolding allCharted hasChart charts twoAddresses oneAddresses branches jumps lettersOf number5
+each-has-a-chart = refl

@@ -71,5 +71,5 @@ bytesOf (OneAddress low) = ofOne (OneAddress low)
 bytesOf (Branch low) = ofOne (Branch low)
 bytesOf LoadAddress = ofOne LoadAddress
 bytesOf (BranchOn q) = ofOne (BranchOn q)
-bytesOf Jump = 0xF2 ∷ []
-bytesOf (JumpOn q) = 0xF2 ∷ []
+bytesOf Jump = operationByte Jump 0 0 ∷ []
+bytesOf (JumpOn q) = operationByte (JumpOn q) 0 0 ∷ []

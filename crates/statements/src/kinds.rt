@@ -39,7 +39,11 @@ fn first_wanted(op: Operation) -> Wanted
 fn address_wanted(length: u32) -> Wanted
     ensures { λ r. ⌜ r ≡ addressWanted length ⌝ }
 {
-    if length == 2 { Wanted::Any } else { Wanted::OnlyAbsolute }
+    if length == 2 {
+        Wanted::Any
+    } else {
+        Wanted::OnlyAbsolute
+    }
 }
 
 fn item_no(v: Valued) -> u8
@@ -57,7 +61,10 @@ fn place_no(p: Place) -> u8
     let address = p.address;
     let length = p.length;
     let register = p.register;
-    lower_of(refusal_for(Wanted::Any, address), lower_of(item_no(length), item_no(register)))
+    lower_of(
+        refusal_for(Wanted::Any, address),
+        lower_of(item_no(length), item_no(register)),
+    )
 }
 
 pub fn expressions_no(op: Operation, x: Operands) -> u8
@@ -67,7 +74,10 @@ pub fn expressions_no(op: Operation, x: Operands) -> u8
         Operands::Two(a, b) => lower_of(place_no(a), place_no(b)),
         Operands::One(a, q) => lower_of(place_no(a), refusal_for(Wanted::OnlyAbsolute, q)),
         Operands::Only(a) => place_no(a),
-        Operands::Pair(e, q) => lower_of(refusal_for(first_wanted(op), e), refusal_for(Wanted::OnlyAbsolute, q)),
+        Operands::Pair(e, q) => lower_of(
+            refusal_for(first_wanted(op), e),
+            refusal_for(Wanted::OnlyAbsolute, q),
+        ),
         Operands::Lone(e) => refusal_for(first_wanted(op), e),
         Operands::Addresses(_, length, e) => refusal_for(address_wanted(length), e),
         Operands::None => 0,

@@ -70,7 +70,12 @@ pub fn statement_from(op: Operation, x: Operands, here: u32, bases: Bases) -> St
 {
     let q = code_byte(code_of(op, x));
     match x {
-        Operands::Two(a, b) => Statement::Two(op, q, operand_in(operand_of(bases, a)), operand_in(operand_of(bases, b))),
+        Operands::Two(a, b) => Statement::Two(
+            op,
+            q,
+            operand_in(operand_of(bases, a)),
+            operand_in(operand_of(bases, b)),
+        ),
         Operands::One(a, _) => Statement::One(op, q, operand_in(operand_of(bases, a))),
         Operands::Only(a) => Statement::One(op, q, operand_in(operand_of(bases, a))),
         Operands::Pair(e, _) => jump_of(use_of(op), q, here, value_in(e)),
@@ -103,14 +108,30 @@ pub fn lone_value(x: Operands) -> Value
 }
 
 // The lowest of refusals 18 to 23 of a card whose operand has a shape.
-pub fn instruction_no(op: Operation, shape: Shape, o: &[u8], table: &[u8], count: usize, here: u32, bases: Bases) -> u8
+pub fn instruction_no(
+    op: Operation,
+    shape: Shape,
+    o: &[u8],
+    table: &[u8],
+    count: usize,
+    here: u32,
+    bases: Bases,
+) -> u8
     requires { ⌜ (16 * count ≤ length (now table)) × (ascending (namesIn count (now table)) ≡ true) ⌝ }
     ensures { λ r. ⌜ r ≡ instructionNo op shape (now (o .entry)) (find (namesIn count (now (table .entry)))) here bases ⌝ }
 {
     number_of(op, operands_of(shape, o, table, count, here), here, bases)
 }
 
-pub fn statement_of(op: Operation, shape: Shape, o: &[u8], table: &[u8], count: usize, here: u32, bases: Bases) -> Statement
+pub fn statement_of(
+    op: Operation,
+    shape: Shape,
+    o: &[u8],
+    table: &[u8],
+    count: usize,
+    here: u32,
+    bases: Bases,
+) -> Statement
     requires { ⌜ (16 * count ≤ length (now table)) × (ascending (namesIn count (now table)) ≡ true) ⌝ }
     ensures { λ r. ⌜ r ≡ statementOf op shape (now (o .entry)) (find (namesIn count (now (table .entry)))) here bases ⌝ }
 {

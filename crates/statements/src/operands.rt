@@ -100,7 +100,11 @@ fn constant_of(d: Data, o: &[u8], table: &[u8], count: usize, here: u32) -> Oper
         DataType::Characters => Operands::None,
         DataType::Hexadecimal => Operands::None,
         DataType::Decimal => Operands::None,
-        DataType::Address => Operands::Addresses(d.copies, d.length, evaluate(o, value, table, count, here)),
+        DataType::Address => Operands::Addresses(
+            d.copies,
+            d.length,
+            evaluate(o, value, table, count, here),
+        ),
     }
 }
 
@@ -114,10 +118,19 @@ pub fn operands_of(shape: Shape, o: &[u8], table: &[u8], count: usize, here: u32
         Shape::Nothing => Operands::None,
         Shape::StartAt(_) => Operands::None,
         Shape::Expression => Operands::Lone(evaluate(o, 0, table, count, here)),
-        Shape::Pair(p) => Operands::Pair(evaluate(o, 0, table, count, here), evaluate(o, p, table, count, here)),
+        Shape::Pair(p) => Operands::Pair(
+            evaluate(o, 0, table, count, here),
+            evaluate(o, p, table, count, here),
+        ),
         Shape::Target => Operands::Lone(evaluate(o, 0, table, count, here)),
-        Shape::Two(a, b) => Operands::Two(place_of(a, o, table, count, here), place_of(b, o, table, count, here)),
-        Shape::One(a, q) => Operands::One(place_of(a, o, table, count, here), evaluate(o, q, table, count, here)),
+        Shape::Two(a, b) => Operands::Two(
+            place_of(a, o, table, count, here),
+            place_of(b, o, table, count, here),
+        ),
+        Shape::One(a, q) => Operands::One(
+            place_of(a, o, table, count, here),
+            evaluate(o, q, table, count, here),
+        ),
         Shape::Only(a) => Operands::Only(place_of(a, o, table, count, here)),
         Shape::Constant(d) => constant_of(d, o, table, count, here),
         Shape::Reserve(_) => Operands::None,

@@ -220,7 +220,10 @@ pub fn places_no(u: Use, x: Operands, here: u32, bases: Bases) -> u8
     ensures { λ r. ⌜ r ≡ placesNo u x here bases ⌝ }
 {
     match x {
-        Operands::Two(a, b) => lower_of(placed_no(operand_of(bases, a)), placed_no(operand_of(bases, b))),
+        Operands::Two(a, b) => lower_of(
+            placed_no(operand_of(bases, a)),
+            placed_no(operand_of(bases, b)),
+        ),
         Operands::One(a, _) => placed_no(operand_of(bases, a)),
         Operands::Only(a) => placed_no(operand_of(bases, a)),
         Operands::Pair(e, last) => use_no(u, here, e, last),
@@ -236,10 +239,16 @@ fn with_base(bases: Bases, r: u16, base: Base) -> Bases
     let one = bases.one;
     let two = bases.two;
     if r == 1 {
-        return Bases { one: base, two: two };
+        return Bases {
+            one: base,
+            two: two,
+        };
     }
     if r == 2 {
-        return Bases { one: one, two: base };
+        return Bases {
+            one: one,
+            two: base,
+        };
     }
     bases
 }
