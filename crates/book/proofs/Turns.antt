@@ -180,6 +180,14 @@ out-of-bound : (s : List ℕ) (at last : ℕ) (rs : List Record) → recordsFrom
 unfolding recordsFrom
 out-of-bound s at last rs q = let z : _≡_ {A = ℕ} 0 1 = cc in omega arith
 
+pub book-none : (s : List ℕ) → Layout.Broken ≡ layoutOf s → bookOf s ≡ none
+unfolding layoutOf
+book-none s q = go (bookOf s) q
+  where
+    go : (o : Option Book) → Layout.Broken ≡ layoutIn o → o ≡ none
+    go none k = refl
+    go (some b) k = let z : _≡_ {A = ℕ} 0 1 = cc in absurd (omega arith)
+
 module _ (s : List ℕ) (e : Entry) (q : Whole e ≡ layoutOf s) where
   pub book-is : bookOf s ≡ some (record { entry = e; records = recordsIn s })
   unfolding layoutOf recordsIn

@@ -39,7 +39,7 @@ fair last r =
     (both (leb (length (r .text)) 256)
     (both (leb (r .address + length (r .text)) 65536) (fieldsFit 0 (length (r .text)) (r .fields))))))
 
--- WHERE ITS PARTS STAND: the record's rest, its card, its address, the count of its fields; behind these the offsets, the text
+-- A RECORD AT A PLACE: the length of its rest, its card, its address, the count of its fields; behind these the offsets, the text
 
 abbrev pub restAt : List ℕ → ℕ → ℕ
 restAt s at = word s at

@@ -68,7 +68,7 @@ abbrev pub recordsOr : Option Book → List B.Record
 recordsOr none = []
 recordsOr (some b) = b .records
 
--- the records of a book; none where it breaks its layout
+-- the records of a book; no records where it breaks its layout
 unfoldable pub recordsIn : List ℕ → List B.Record
 recordsIn s = recordsOr (bookOf s)
 

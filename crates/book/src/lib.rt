@@ -38,7 +38,7 @@ pub enum Step {
     Broken,
 }
 
-// Whether the layout is kept; then the entry.
+// Whether the layout is kept, of the header or of the whole book; then the entry.
 pub enum Layout {
     Whole(Entry),
     Broken,
@@ -46,7 +46,6 @@ pub enum Layout {
 
 // Offsets that ascend by at least 2, each with its two bytes inside a text of `size` bytes.
 pub fn fields_fit(offsets: &[u8], size: usize) -> bool
-    requires { ⌜ size < 65536 ⌝ }
     ensures { λ r. ⌜ r ≡ fieldsFit 0 size (now (offsets .entry)) ⌝ }
 {
     let mut least = 0;
@@ -129,8 +128,8 @@ impl Cursor {
     }
 }
 
-// The header alone.
-pub fn read_header(book: &[u8]) -> Layout
+// The header alone: it says nothing of the records.
+fn read_header(book: &[u8]) -> Layout
     ensures { λ r. ⌜ r ≡ headerOf (now (book .entry)) ⌝ }
 {
     if book.len() < 8 {

@@ -39,26 +39,6 @@ module _ (s : List ℕ) (p : Place) (ok : Sound s p) where
   pub offset-inside : (i : ℕ) → i < p .count → getD (recordOf s p .fields) i 0 + 2 ≤ p .size
   offset-inside i h = let n = fields-length s p ok in fits-each 0 (p .size) (recordOf s p .fields) (ok .inside) i (omega arith)
 
--- WHAT THE SUM OF A FIELD AND A DISPLACEMENT SAYS
-
-pub moved-over : (d : Displacement) (v : Relocatable) → Over ≡ movedBy d v → 65535 < v .0 + d .0
-unfolding movedBy
-moved-over d v e = go (leb (v .0 + d .0) 65535) refl e
-  where
-    go : (b : Bool) → leb (v .0 + d .0) 65535 ≡ b → Over ≡ pick b (To (record { 0 = v .0 + d .0 })) Over → 65535 < v .0 + d .0
-    go true h k = let z : _≡_ {A = ℕ} 0 1 = cc in absurd (omega arith)
-    go false h k = leb-false (v .0 + d .0) 65535 h
-
-pub moved-to : (d : Displacement) (v w : Relocatable) → To w ≡ movedBy d v → (w .0 ≡ v .0 + d .0) × (v .0 + d .0 ≤ 65535)
-unfolding movedBy
-moved-to d v w e = go (leb (v .0 + d .0) 65535) refl e
-  where
-    go : (b : Bool) → leb (v .0 + d .0) 65535 ≡ b → To w ≡ pick b (To (record { 0 = v .0 + d .0 })) Over → (w .0 ≡ v .0 + d .0) × (v .0 + d .0 ≤ 65535)
-    go true h k =
-        let same : _≡_ {A = Relocatable} w (record { 0 = v .0 + d .0 }) = cc in
-        (ap (λ (x : Relocatable). x .0) same, leb-true (v .0 + d .0) 65535 h)
-    go false h k = let z : _≡_ {A = ℕ} 0 1 = cc in absurd (omega arith)
-
 -- A TURN
 
 pub over-here : (d : ℕ) (text : List ℕ) (o : ℕ) (os : List ℕ) → 65535 < word text o + d → overIn d text (o ∷ os) ≡ true

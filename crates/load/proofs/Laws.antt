@@ -3,7 +3,6 @@ use Prim.Native.Nat.{ℕ, _+_, _*_, _≤_, _<_}
 use mathlib.Core.List.{List, [], _∷_}
 use mathlib.Core.Path.{_≡_, refl, sym, ap, _∙_}
 use mathlib.Core.Bool.{Bool, true, false}
-use mathlib.Core.Option.{Option, none, some}
 use native.Mathlib.Omega.{arith}
 use native.Mathlib.Nat.{add-assoc}
 use lib.ListN.{length}
@@ -16,16 +15,16 @@ use Rattle.values.specs.declared.Relocatable.{Relocatable}
 use Rattle.values.specs.declared.Moved.{Moved}
 use Rattle.values.specs.declared.Moved.the-variants.{To}
 use Rattle.values.specs.Values.{movedBy}
-use Rattle.book.specs.Book.{Record, Book, bookOf}
+use Rattle.book.specs.Book.{Record}
 use Rattle.book.specs.declared.Entry.{Entry}
 use Rattle.book.specs.declared.Entry.the-variants.{Absent, At}
 use Rattle.book.specs.declared.Layout.{Layout}
-use Rattle.book.specs.Reading.{layoutOf, layoutIn, recordsIn}
-use Rattle.book.proofs.Turns.{book-is}
+use Rattle.book.specs.Reading.{layoutOf, recordsIn}
+use Rattle.book.proofs.Turns.{book-none, book-is}
 use Rattle.fields.specs.Fields.{overField, movedText}
 use Rattle.load.specs.declared.Loaded.{Loaded}
 use Rattle.load.specs.declared.Loaded.the-variants.{Stored, Broken, Outside, Over}
-use Rattle.load.specs.Load.{Outcome, firstCard, outside, roomIn, stored, storedAll, bytesStored, refused, accepted, entered, enteredAt, judged, ofBook, loading}
+use Rattle.load.specs.Load.{Outcome, firstCard, outside, roomIn, stored, storedAll, bytesStored, refused, accepted, entered, enteredAt, judged, loading}
 
 -- THE FIRST RECORD THAT FAILS
 
@@ -112,12 +111,8 @@ pub by-outcome : (o p : Outcome) (r : Loaded) (m : List ℕ) → o ≡ p → r �
 by-outcome o p r m e a b = rw e (a, b)
 
 pub is-broken : (s : List ℕ) (d : Displacement) (m : List ℕ) → Layout.Broken ≡ layoutOf s → loading s d m ≡ refused Broken m
-unfolding loading layoutOf
-is-broken s d m e = go (bookOf s) refl e
-  where
-    go : (o : Option Book) → bookOf s ≡ o → Layout.Broken ≡ layoutIn o → ofBook (bookOf s) d m ≡ refused Broken m
-    go none h k = rw h
-    go (some b) h k = let z : _≡_ {A = ℕ} 0 1 = cc in absurd (omega arith)
+unfolding loading
+is-broken s d m e = rw (book-none s e)
 
 pub is-whole : (s : List ℕ) (e : Entry) (d : Displacement) (m : List ℕ) → Layout.Whole e ≡ layoutOf s → loading s d m ≡ judged e d (recordsIn s) m
 unfolding loading

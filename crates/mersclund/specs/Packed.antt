@@ -14,7 +14,7 @@ abbrev pub packedEntry : Entry → ℕ
 packedEntry Absent = 0
 packedEntry (At e) = 2 ^ 48 + e .0 * 2 ^ 32
 
--- accepted: the bytes stored in bits 31 to 0, and the entry
+-- accepted: the bytes stored, at most 1,024,000, in bits 31 to 0, and the entry
 abbrev pub packedLoad : Loaded → ℕ
 packedLoad (Stored bytes e) = bytes + packedEntry e
 packedLoad Broken = packedRefusal 50 0

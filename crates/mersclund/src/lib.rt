@@ -41,5 +41,5 @@ pub extern "C" fn mersclund_load(book: &[u8], displacement: u16, storage: &mut [
     ensures { λ r. ⌜ r ≡ packedLoad (loading (now (book .entry)) (record { 0 = displacement }) (now (storage .entry)) .answer) ⌝ }
     ensures { λ _. ⌜ now (storage .exit) ≡ loading (now (book .entry)) (record { 0 = displacement }) (now (storage .entry)) .storage ⌝ }
 {
-    pack_load(load_book(book, Displacement(displacement), storage))
+    pack_load(load_book(book, Displacement::by(displacement), storage))
 }

@@ -13,6 +13,7 @@ use Rattle.book.specs.Book.{Record}
 use Rattle.book.specs.Reading.{layoutOf, recordsIn}
 use Rattle.book.specs.declared.Entry.{Entry}
 use Rattle.book.specs.declared.Layout.the-variants.{Whole, Broken}
+use Rattle.book.proofs.Turns.{book-none, book-is}
 use Rattle.print.specs.Print.{hexDigit, hexBytes, column, headerLine, offsets, headColumns, recordLine, recordLines, bookLines, printed, refused50, refused57, whereRoom, offsetsLength, lineLength}
 
 -- COLUMNS
@@ -135,11 +136,11 @@ is-long s h = rw (lt-ltb _ _ h)
 
 pub is-broken : (s : List ℕ) → length s ≤ 65536 → Broken ≡ layoutOf s → printed s ≡ refused50
 unfolding printed
-is-broken s h e = rw (le-ltb _ _ h, ← e)
+is-broken s h e = rw (le-ltb _ _ h, book-none s e)
 
 pub is-whole : (s : List ℕ) (e : Entry) → length s ≤ 65536 → Whole e ≡ layoutOf s → printed s ≡ bookLines s
-unfolding printed
-is-whole s e h q = rw (le-ltb _ _ h, ← q)
+unfolding printed bookLines
+is-whole s e h q = rw (le-ltb _ _ h, book-is s e q)
 
 pub lines-are : (s : List ℕ) → bookLines s ≡ headerLine s ++ recordLines (recordsIn s)
 unfolding bookLines

@@ -7,7 +7,7 @@ use mathlib.Core.Option.{Option, none, some}
 use native.Mathlib.Omega.{arith}
 use lib.ListN.{length, length-append}
 use lib.Dec.{ltb, eqb}
-use borrow.Author.Tests.{eqb-true, ltb-false, eqb-false, eq-eqb, ne-eqb}
+use borrow.Author.Tests.{eqb-true, eqb-false, ltb-true, ltb-false}
 use Rattle.values.specs.Tests.{pick}
 use Rattle.values.proofs.Laws.{part-length}
 use Rattle.book.specs.Book.{Record, recordsFrom, onto, recordOk, restAt, countAt, sizeAt, cardAt, nextAt, recordAt}
@@ -17,8 +17,8 @@ use Rattle.book.specs.declared.Layout.{Layout}
 use Rattle.book.specs.declared.Layout.the-variants.{Whole, Broken}
 use Rattle.book.proofs.Laws.{text-length, whole-is}
 use Rattle.book.proofs.Turns.{records-are, long-enough}
-use Rattle.print.specs.Print.{headerLine, recordLine, recordLines, bookLines, linesOf, printed, refused50, refused57, offsetsLength}
-use Rattle.print.proofs.Laws.{line-length, lines-first, lines-none, lines-are, header-length, length-none, length-some}
+use Rattle.print.specs.Print.{headerLine, recordLine, recordLines, printed, offsetsLength}
+use Rattle.print.proofs.Laws.{line-length, lines-first, lines-none, lines-are, header-length, length-none, length-some, is-long, is-broken, is-whole}
 
 offsets-short : (count : ℕ) → offsetsLength count ≤ 2 * count + 2
 offsets-short count = go (eqb count 0) refl
@@ -59,16 +59,15 @@ lines-short (suc n) s at last rs q =
         omega arith
 
 pub printed-short : (s : List ℕ) → length (printed s) ≤ 196608
-unfolding printed
 printed-short s = go (ltb 65536 (length s)) (layoutOf s) refl refl
   where
-    go : (b : Bool) (l : Layout) → ltb 65536 (length s) ≡ b → l ≡ layoutOf s → length (pick b refused57 (linesOf s l)) ≤ 196608
-    go true l h q = omega arith
-    go false Broken h q = omega arith
+    go : (b : Bool) (l : Layout) → ltb 65536 (length s) ≡ b → l ≡ layoutOf s → length (printed s) ≤ 196608
+    go true l h q = let p = ap length (is-long s (ltb-true 65536 (length s) h)) in omega arith
+    go false Broken h q = let p = ap length (is-broken s (ltb-false 65536 (length s) h) q) in omega arith
     go false (Whole e) h q =
         let small = ltb-false 65536 (length s) h in
         let n = lines-short (length s) s 8 0 (recordsIn s) (records-are s e q) in
         let long = header-length s (long-enough s e q) in
         let k = length-append (headerLine s) (recordLines (recordsIn s)) in
-        let f = ap length (lines-are s) in
+        let f = ap length (is-whole s e small q) ∙ ap length (lines-are s) in
         omega arith

@@ -1,15 +1,14 @@
 -- What the printer writes (document 01, the printer's paragraph): the lines of a book in hex, or one line that refuses it.
 use Prim.Native.Nat.{ℕ, _+_, _*_, _/_, _%_}
 use mathlib.Core.List.{List, [], _∷_, _++_}
+use mathlib.Core.Option.{Option, none, some}
 use lib.ListN.{length}
 use lib.Dec.{ltb, leb, eqb}
 use lib.Seq.{sets}
 use Rattle.values.specs.Tests.{pick}
 use Rattle.values.specs.Words.{twoBytes, part}
-use Rattle.book.specs.Book.{Record}
-use Rattle.book.specs.Reading.{layoutOf, recordsIn}
-use Rattle.book.specs.declared.Layout.{Layout}
-use Rattle.book.specs.declared.Layout.the-variants.{Whole, Broken}
+use Rattle.book.specs.Book.{Record, Book, bookOf}
+use Rattle.book.specs.Reading.{recordsIn}
 
 -- 0 to 9 and A to F
 abbrev pub hexDigit : ℕ → ℕ
@@ -55,25 +54,27 @@ refused50 = 82 ∷ 69 ∷ 70 ∷ 85 ∷ 83 ∷ 69 ∷ 68 ∷ 32 ∷ 53 ∷ 48 �
 abbrev pub refused57 : List ℕ
 refused57 = 82 ∷ 69 ∷ 70 ∷ 85 ∷ 83 ∷ 69 ∷ 68 ∷ 32 ∷ 53 ∷ 55 ∷ 10 ∷ []
 
--- the lines of a book
-unfoldable pub bookLines : List ℕ → List ℕ
-bookLines s = headerLine s ++ recordLines (recordsIn s)
-
-abbrev pub linesOf : List ℕ → Layout → List ℕ
-linesOf s Broken = refused50
-linesOf s (Whole e) = bookLines s
+-- REFUSED 50 where the book breaks its layout, else its lines
+abbrev pub linesOf : List ℕ → Option Book → List ℕ
+linesOf s none = refused50
+linesOf s (some b) = headerLine s ++ recordLines (b .records)
 
 -- what is written for an input: 57 where it is over 65,536 bytes, before 50
 unfoldable pub printed : List ℕ → List ℕ
-printed s = pick (ltb 65536 (length s)) refused57 (linesOf s (layoutOf s))
+printed s = pick (ltb 65536 (length s)) refused57 (linesOf s (bookOf s))
 
 -- a lent buffer with bytes in front, or unchanged where it is too short for them
 unfoldable pub whereRoom : List ℕ → List ℕ → List ℕ
 whereRoom bytes m = pick (leb (length bytes) (length m)) (sets m 0 bytes) m
 
--- how long the line of a record is, with so many fields and bytes of text
+-- how long the column of so many offsets is
 abbrev pub offsetsLength : ℕ → ℕ
 offsetsLength count = pick (eqb count 0) 2 (2 * count + 1)
 
+-- how long the line of a record is, with so many fields and bytes of text
 abbrev pub lineLength : ℕ → ℕ → ℕ
 lineLength count size = 18 + offsetsLength count + (2 * size + 1)
+
+-- the lines of a book that keeps its layout
+unfoldable pub bookLines : List ℕ → List ℕ
+bookLines s = headerLine s ++ recordLines (recordsIn s)

@@ -1,5 +1,5 @@
 // Prints the book on standard input: its lines, or REFUSED 50, or REFUSED 57 for an input over 65,536 bytes.
-ghost use Prim.Native.Nat.{_≤_};
+ghost use Prim.Native.Nat.{_≤_, _<_};
 ghost use lib.ListN.{length};
 ghost use Rattle.printer.specs.Input.{readOf};
 use libc::STDERR_FILENO;
@@ -22,8 +22,9 @@ fn read_piece(room: &mut [u8]) -> Input
     Input::Read(io::count(got, room))
 }
 
-// Reads until the input ends or the buffer is full, in whatever pieces it comes.
+// Reads until the input ends or the buffer is full, in whatever pieces it comes. The buffer has room for one byte more than a book to print, so that a longer input shows.
 fn read_input(buffer: &mut [u8]) -> Input
+    requires { ⌜ 65536 < length (now buffer) ⌝ }
     ensures { λ r. ⌜ readOf r ≤ length (now (buffer .exit)) ⌝ }
 {
     let mut have = 0;
@@ -58,7 +59,6 @@ fn print_input(input: &[u8], have: usize)
 }
 
 fn main() {
-    // One byte more than a book to print may have, so that a longer input shows.
     let mut buffer = [0u8; 65537];
     match read_input(&mut buffer) {
         Input::Failed => {

@@ -11,7 +11,7 @@ pub struct BookReader<'a> {
 }
 
 impl<'a> BookReader<'a> {
-    // A reader at the first record.
+    // A reader at the first record. It doesn't look at the header.
     pub fn open(book: &'a [u8]) -> BookReader<'a>
         ensures { λ r. ⌜ (r .book ≡ book .entry) × (r .place .at ≡ 8) × (r .place .card ≡ 0) ⌝ }
     {

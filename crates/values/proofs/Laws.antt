@@ -18,21 +18,16 @@ pub both-false : (b : Bool) → both b false ≡ false
 both-false true = refl
 both-false false = refl
 
+pub both-true : (a b : Bool) → both a b ≡ true → (a ≡ true) × (b ≡ true)
+both-true true b e = (refl, e)
+both-true false b e = let z : _≡_ {A = ℕ} 0 1 = cc in absurd (omega arith)
+
 -- a test that fails whenever b < a: where it passes, a ≤ b
 pub held : {r : Bool} (a b : ℕ) → (b < a → r ≡ false) → r ≡ true → a ≤ b
 held a b n e =
     elim (decLe a b) [ yes h ↦ h | no h ↦ let q = n (lt-of-not-le h) in let z : _≡_ {A = ℕ} 0 1 = cc in omega arith ]
 
 -- WORDS
-
--- two bytes of a number below 65536 give it back
-pub word-two : (n : ℕ) (s : List ℕ) → n < 65536 → word (twoBytes n ++ s) 0 ≡ n
-unfolding word
-word-two n s h = omega arith
-
-pub both-true : (a b : Bool) → both a b ≡ true → (a ≡ true) × (b ≡ true)
-both-true true b e = (refl, e)
-both-true false b e = let z : _≡_ {A = ℕ} 0 1 = cc in absurd (omega arith)
 
 pub word-shift : (xs ys : List ℕ) (n : ℕ) → word (xs ++ ys) (length xs + n) ≡ word ys n
 unfolding word

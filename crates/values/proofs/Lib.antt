@@ -1,2 +1,3 @@
 -- The laws that every crate cites.
 pub mod Laws
+pub mod Sums

@@ -11,7 +11,7 @@ pub struct Absolute(pub u16);
 pub struct Relocatable(pub u16);
 
 // How far a program is moved. It is neither of the two above.
-pub struct Displacement(pub u16);
+pub struct Displacement(u16);
 
 pub enum Value {
     Absolute(Absolute),
@@ -35,5 +35,14 @@ impl Relocatable {
         } else {
             Moved::Over
         }
+    }
+}
+
+impl Displacement {
+    // By so many bytes.
+    pub fn by(bytes: u16) -> Self
+        ensures { λ r. ⌜ r ≡ record { 0 = bytes } ⌝ }
+    {
+        Displacement(bytes)
     }
 }

@@ -9,7 +9,8 @@ use Rattle.values.proofs.Laws.{drop-turn}
 use Rattle.book.specs.Reading.{recordOf}
 use Rattle.fields.specs.Fields.{overIn, overField}
 use Rattle.book.proofs.Places.{fields-length}
-use Rattle.fields.proofs.Laws.{moved-over, moved-to, over-here, over-later, over-none}
+use Rattle.values.proofs.Sums.{moved-over, moved-to}
+use Rattle.fields.proofs.Laws.{over-here, over-later, over-none}
 use Rattle.fields.proofs.over_field.Statement.{statement}
 use Rattle.fields.proofs.over_field.Tie as tie
 

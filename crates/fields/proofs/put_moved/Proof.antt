@@ -11,7 +11,8 @@ use Rattle.book.specs.Reading.{recordOf}
 use Rattle.fields.specs.Fields.{overIn}
 use lib.Seq.{sets}
 use Rattle.book.proofs.Places.{fields-length, text-length}
-use Rattle.fields.proofs.Laws.{moved-over, moved-to, over-here, over-later, Moving, moving-start, moving-turn, moving-end}
+use Rattle.values.proofs.Sums.{moved-over, moved-to}
+use Rattle.fields.proofs.Laws.{over-here, over-later, Moving, moving-start, moving-turn, moving-end}
 use Rattle.fields.proofs.put_moved.Statement.{statement}
 use Rattle.fields.proofs.put_moved.Tie as tie
 

@@ -4,7 +4,7 @@ use mathlib.Core.Path.{sym, ap, _∙_}
 use Prim.Native.Nat.{_+_}
 use lib.Dec.{ltb}
 use borrow.Author.Tests.{lt-ltb}
-use Rattle.fields.proofs.Laws.{moved-over, moved-to}
+use Rattle.values.proofs.Sums.{moved-over, moved-to}
 use borrow.Author.Needs.{needs}
 use Rattle.load.proofs.is_outside.Statement.{statement}
 use Rattle.load.proofs.is_outside.Tie as tie

@@ -13,7 +13,7 @@ use mathlib.Core.Bool.{false}
 use borrow.Author.Tests.{ltb-false}
 use lib.Seq.{sets}
 use Rattle.book.proofs.Places.{text-length}
-use Rattle.fields.proofs.Laws.{moved-over, moved-to}
+use Rattle.values.proofs.Sums.{moved-over, moved-to}
 use Rattle.load.specs.Load.{outside, roomIn, stored, storedAll, bytesStored}
 use Rattle.load.proofs.Laws.{none-fails, stored-is, stored-none, bytes-none, Still, still-first}
 use Rattle.load.proofs.store_all.Statement.{statement}

@@ -1,9 +1,13 @@
 -- `mersclund_load` meets its contract. The load's own promise, packed.
 use mathlib.Core.Path.{ap, _∙_}
+use Rattle.load.specs.Load.{loading}
 use Rattle.mersclund.specs.Packed.{packedLoad}
 use borrow.Author.Needs.{needs}
 use Rattle.mersclund.proofs.mersclund_load.Statement.{statement}
 use Rattle.mersclund.proofs.mersclund_load.Tie as tie
+
+by-requires : tie.Need-by-requires
+by-requires c κs = search needs
 
 load-book-requires : tie.Need-load-book-requires
 load-book-requires c κs = search needs
@@ -15,8 +19,12 @@ same-length : tie.Need-same-length
 same-length c = search needs
 
 returns : tie.Need-returns
-returns c = (c .pack-load .ensures ∙ ap packedLoad (c .before .before .before .load-book .ensures .0), c .before .before .before .load-book .ensures .1)
+returns c =
+    let a = c .before .before .before .before .before .before .before .before .args in
+    let e = c .before .before .before .before .before .by .ensures in
+    let l = c .before .before .before .load-book .ensures in
+    (c .pack-load .ensures ∙ ap packedLoad (l .0 ∙ ap (λ d. loading (a .book .now) d (a .storage .now) .answer) e), l .1 ∙ ap (λ d. loading (a .book .now) d (a .storage .now) .storage) e)
 
 pub mersclund-load-spec : {M : Type 1} → statement M
 mersclund-load-spec =
-    tie.close (tie.spec load-book-requires pack-load-requires same-length returns)
+    tie.close (tie.spec by-requires load-book-requires pack-load-requires same-length returns)

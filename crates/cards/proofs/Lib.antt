@@ -1,0 +1,2 @@
+-- The laws of cards that other crates cite.
+pub mod Laws

@@ -1,0 +1,56 @@
+-- `end_of_operand` meets its contract. The invariant: the operand's end from here, inside apostrophes or not, is its end from the start.
+use mathlib.Core.Bool.{false}
+use native.Mathlib.Omega.{arith}
+use mathlib.Core.Path.{_≡_, refl, sym, ap, _∙_}
+use Prim.Native.Nat.{_+_, _-_, _≤_}
+use borrow.Author.Needs.{needs}
+use lib.ListN.{length}
+use Rattle.cards.specs.Fields.{operandEnd}
+use Rattle.cards.proofs.Laws.{operand-more, operand-stop, operand-none}
+use Rattle.cards.proofs.end_of_operand.Statement.{statement}
+use Rattle.cards.proofs.end_of_operand.Tie as tie
+
+abbrev Inv-loop : tie.InvT-loop
+Inv-loop s at inside₀ i₀ inside i = (operandEnd (length s - i) inside s i ≡ operandEnd (length s - at) false s at) × (at ≤ i) × (i ≤ length s)
+
+abbrev μ-loop : tie.MeasureT-loop
+μ-loop s at inside₀ i₀ inside i = length s - i
+
+loop-holds : tie.Need-loop-holds Inv-loop μ-loop
+loop-holds c = (refl, omega arith, omega arith)
+
+ends-here-requires : tie.Need-ends-here-requires Inv-loop μ-loop
+ends-here-requires c κs = search needs
+
+returns : tie.Need-returns Inv-loop μ-loop
+returns c = (sym (operand-stop (c .before .before .before .before .before .args .s .now) (c .before .before .before .loop .i) (c .before .before .before .loop .inside) (c .before .before .loop-test .taken) (sym (c .before .ends-here .ensures) ∙ c .if1 .taken)) ∙ c .before .before .before .loop .inv .0, omega arith, omega arith)
+
+turned-at-requires : tie.Need-turned-at-requires Inv-loop μ-loop
+turned-at-requires c κs = search needs
+
+add-i : tie.Need-add-i Inv-loop μ-loop
+add-i c = omega arith
+
+loop-less : tie.Need-loop-less Inv-loop μ-loop
+loop-less c = omega arith
+
+loop-again : tie.Need-loop-again Inv-loop μ-loop
+loop-again c = (ap (λ x. operandEnd (length (c .before .before .before .before .before .before .args .s .now) - (c .before .before .before .before .loop .i + 1)) x (c .before .before .before .before .before .before .args .s .now) (c .before .before .before .before .loop .i + 1)) (c .turned-at .ensures) ∙ sym (operand-more (c .before .before .before .before .before .before .args .s .now) (c .before .before .before .before .loop .i) (c .before .before .before .before .loop .inside) (c .before .before .before .loop-test .taken) (sym (c .before .before .ends-here .ensures) ∙ c .before .if1 .left)) ∙ c .before .before .before .before .loop .inv .0, omega arith, omega arith)
+
+returns-2 : tie.Need-returns-2 Inv-loop μ-loop
+returns-2 c = (sym (operand-none (c .before .before .before .args .s .now) (c .before .loop .i) (c .before .loop .inside) (c .loop-test .left)) ∙ c .before .loop .inv .0, omega arith, omega arith)
+
+pub end-of-operand-spec : {M : Type 1} → statement M
+end-of-operand-spec =
+    tie.close
+    (tie.spec
+    Inv-loop
+    μ-loop
+    loop-holds
+    ends-here-requires
+    returns
+    turned-at-requires
+    add-i
+    loop-less
+    loop-again
+    returns-2)

@@ -1,0 +1,90 @@
+-- Document 01, "Cards": a card's statement columns taken apart. Positions count from 0.
+use Prim.Native.Nat.{ℕ, zero, suc, _+_, _-_}
+use Prim.Native.Char.{Char}
+use mathlib.Core.List.{List, [], _∷_}
+use mathlib.Core.Bool.{Bool, true, false, not}
+use lib.ListN.{length, getD}
+use lib.Dec.{leb, eqb}
+use Rattle.values.specs.Tests.{pick, both, either}
+use Rattle.letters.specs.Letters.{classOf, isBlank, isAccepted}
+use Rattle.terms.specs.declared.naming.Name.{Name}
+use Rattle.terms.specs.declared.naming.Name.the-variants.{Named, NoName}
+use Rattle.terms.specs.Names.{nameAt}
+use Rattle.terms.specs.Terms.{stands}
+use Rattle.cards.specs.declared.Fields.{Fields}
+use Rattle.cards.specs.declared.Card.{Card}
+use Rattle.cards.specs.declared.Card.the-variants.{Comment, BadName, Statement}
+
+-- "Accepted bytes in statement columns": every byte is one of them
+unfoldable pub allAccepted : List ℕ → Bool
+allAccepted [] = true
+allAccepted (b ∷ bs) = both (isAccepted (classOf b)) (allAccepted bs)
+
+-- 10: "byte not accepted"
+unfoldable pub byteNo : List ℕ → ℕ
+byteNo s = pick (allAccepted s) 0 10
+
+-- a blank stands at a position
+abbrev pub blankAt : List ℕ → ℕ → Bool
+blankAt s at = isBlank (classOf (getD s at 0))
+
+-- "parted by blanks": the position behind the n columns at most that are blank from a position on
+unfoldable pub blanksEnd : ℕ → List ℕ → ℕ → ℕ
+blanksEnd zero s at = at
+blanksEnd (suc n) s at = pick (blankAt s at) (blanksEnd n s (at + 1)) at
+
+-- .. and behind those that are not blank
+unfoldable pub wordEnd : ℕ → List ℕ → ℕ → ℕ
+wordEnd zero s at = at
+wordEnd (suc n) s at = pick (blankAt s at) at (wordEnd n s (at + 1))
+
+-- a position lies inside apostrophes where an odd number of them stands before it in the operand
+abbrev pub turned : Bool → List ℕ → ℕ → Bool
+turned inside s at = pick (stands "'" s at) (not inside) inside
+
+-- "The operand ends at the first blank outside apostrophes", or behind the n columns that are left
+unfoldable pub operandEnd : ℕ → Bool → List ℕ → ℕ → ℕ
+operandEnd zero inside s at = at
+operandEnd (suc n) inside s at = pick (both (not inside) (blankAt s at)) at (operandEnd n (turned inside s at) s (at + 1))
+
+-- the next column that is not blank; the end of the word at a column; the end of the operand at a column
+abbrev pub nextWord : List ℕ → ℕ → ℕ
+nextWord s at = blanksEnd (length s - at) s at
+
+abbrev pub endOfWord : List ℕ → ℕ → ℕ
+endOfWord s at = wordEnd (length s - at) s at
+
+abbrev pub endOfOperand : List ℕ → ℕ → ℕ
+endOfOperand s at = operandEnd (length s - at) false s at
+
+-- "a lone comma means no operand"
+abbrev pub loneComma : List ℕ → ℕ → ℕ → Bool
+loneComma s from to = both (eqb to (from + 1)) (stands "," s from)
+
+-- "Operation, operand and remark follow, parted by blanks": where they lie, from a column on. An absent one ends where it starts
+unfoldable pub fieldsFrom : ℕ → List ℕ → ℕ → Fields
+fieldsFrom name s at =
+    let operation = nextWord s at in
+    let behind = endOfWord s operation in
+    let from = nextWord s behind in
+    let to = endOfOperand s from in
+    record { name = name; operation = operation; behind = behind; operand = from; end = pick (loneComma s from to) from to }
+
+-- a name ends at a blank or with the last column
+abbrev pub nameEnds : List ℕ → ℕ → Bool
+nameEnds s at = either (leb (length s) at) (blankAt s at)
+
+-- 11: a name is all that stands in column 1 and behind it up to a blank
+abbrev pub namedCard : List ℕ → Name → Card
+namedCard s (Named number next) = pick (nameEnds s next) (Statement (fieldsFrom number s next)) BadName
+namedCard s (NoName place) = BadName
+
+-- 11: "bad name"
+abbrev pub cardNo : Card → ℕ
+cardNo Comment = 0
+cardNo BadName = 11
+cardNo (Statement f) = 0
+
+-- "Column 1 `*`: a comment. Else a name starts in column 1, or column 1 is blank." No name is the number 0
+unfoldable pub cardOf : List ℕ → Card
+cardOf s = pick (stands "*" s 0) Comment (pick (blankAt s 0) (Statement (fieldsFrom 0 s 0)) (namedCard s (nameAt s 0)))

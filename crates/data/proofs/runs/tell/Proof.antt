@@ -1,0 +1,20 @@
+-- `runs::tell` meets its contract.
+use native.Mathlib.Omega.{arith}
+use borrow.Author.Needs.{needs}
+use Rattle.data.specs.Runs.{told}
+use Rattle.data.proofs.runs.tell.Statement.{statement}
+use Rattle.data.proofs.runs.tell.Tie as tie
+
+cast-result : tie.Need-cast-result
+cast-result c = search needs
+
+returns : tie.Need-returns
+unfolding told
+returns c = omega arith
+
+returns-2 : tie.Need-returns-2
+unfolding told
+returns-2 c = omega arith
+
+pub tell-spec : {M : Type 1} → statement M
+tell-spec = tie.close (tie.spec cast-result returns returns-2)

@@ -1,0 +1,28 @@
+-- Runs of digits: "one or more digits, however many".
+use Prim.Native.Nat.{ℕ, zero, suc, _+_, _-_, min}
+use mathlib.Core.List.{List}
+use lib.ListN.{length}
+use Rattle.values.specs.Tests.{pick}
+use Rattle.terms.specs.Terms.{digitAt, withDigit}
+
+-- the position behind the digits of a base that stand from a position on; n bounds how many
+unfoldable pub digitsEndFrom : ℕ → ℕ → List ℕ → ℕ → ℕ
+digitsEndFrom zero base s at = at
+digitsEndFrom (suc n) base s at = pick (digitAt base s at) (digitsEndFrom n base s (at + 1)) at
+
+-- no more than there are columns
+unfoldable pub digitsEnd : ℕ → List ℕ → ℕ → ℕ
+digitsEnd base s at = digitsEndFrom (length s) base s at
+
+-- the number that n decimal digits from a position on write, behind the number v
+unfoldable pub numberFrom : ℕ → List ℕ → ℕ → ℕ → ℕ
+numberFrom zero s at v = v
+numberFrom (suc n) s at v = numberFrom n s (at + 1) (withDigit 10 s at v)
+
+-- a number is told no further than 65536, which is past every limit
+unfoldable pub told : ℕ → ℕ
+told n = min n 65536
+
+-- the number between two positions
+abbrev pub numberIn : List ℕ → ℕ → ℕ → ℕ
+numberIn s at end = told (numberFrom (end - at) s at 0)

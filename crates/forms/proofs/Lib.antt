@@ -1,0 +1,2 @@
+-- Laws of operand forms.
+pub mod Laws

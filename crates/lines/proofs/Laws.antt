@@ -1,0 +1,73 @@
+-- What callers cite of a line: its operand lies inside the columns, and its name's number has six bytes.
+use Prim.{Unit, tt}
+use Prim.Native.Nat.{ℕ, _-_, _≤_, _<_}
+use mathlib.Core.List.{List}
+use mathlib.Core.Bool.{Bool, true, false}
+use mathlib.Core.Path.{_≡_, refl, sym, _∙_, subst}
+use native.Mathlib.Omega.{arith}
+use lib.ListN.{length}
+use Rattle.values.specs.Tests.{pick}
+use Rattle.terms.specs.Terms.{stands}
+use Rattle.terms.specs.Names.{nameAt}
+use Rattle.terms.specs.declared.naming.Name.{Name}
+use Rattle.terms.specs.declared.naming.Name.the-variants.{Named, NoName}
+use Rattle.terms.proofs.Within.{NameWithin, name-within}
+use Rattle.cards.specs.declared.Fields.{Fields}
+use Rattle.cards.specs.declared.Card.{Card}
+use Rattle.cards.specs.declared.Card.the-variants.{Comment as CardComment, BadName as CardBadName, Statement as CardStatement}
+use Rattle.cards.specs.Fields.{blankAt, fieldsFrom, nameEnds, namedCard, cardOf}
+use Rattle.cards.proofs.Laws.{Ordered, CardWithin, card-within}
+use Rattle.lines.specs.declared.Line.{Line}
+use Rattle.lines.specs.declared.Reading.{Reading}
+use Rattle.lines.specs.declared.Reading.the-variants.{Comment, BadName, Statement}
+use Rattle.lines.specs.Lines.{lineOf, readingFrom, readingOf}
+
+module _ (s : List ℕ) where
+  pub record LineWithin (l : Line) : Type 0 where
+    pub operand : l .operand ≤ l .end
+    pub end : l .end ≤ length s
+    pub name : l .name < 281474976710656
+
+  abbrev pub ReadingWithin : Reading → Type 0
+  ReadingWithin Comment = Unit {0}
+  ReadingWithin BadName = Unit {0}
+  ReadingWithin (Statement l) = LineWithin l
+
+  abbrev NameBelow : Card → Type 0
+  NameBelow CardComment = Unit {0}
+  NameBelow CardBadName = Unit {0}
+  NameBelow (CardStatement f) = f .name < 281474976710656
+
+  name-below : NameBelow (cardOf s)
+  unfolding cardOf fieldsFrom
+  name-below = go (stands "*" s 0) (blankAt s 0)
+    where
+      named : (n : Name) → NameWithin s 0 n → NameBelow (namedCard s n)
+      named (Named number next) w = ends (nameEnds s next)
+        where
+          ends : (x : Bool) → NameBelow (pick x (CardStatement (fieldsFrom number s next)) CardBadName)
+          ends true = w .2
+          ends false = tt
+      named (NoName place) w = tt
+
+      go : (x y : Bool) → NameBelow (pick x CardComment (pick y (CardStatement (fieldsFrom 0 s 0)) (namedCard s (nameAt s 0))))
+      go true y = tt
+      go false true = omega arith
+      go false false = named (nameAt s 0) (name-within s 0)
+
+  pub fields-within : (c : Card) (f : Fields) → c ≡ cardOf s → c ≡ CardStatement f → (f .operand ≤ f .end) × (f .end ≤ length s)
+  fields-within c f e g =
+      let w : Ordered s f = subst (CardWithin s) (sym e ∙ g) (card-within s) in
+      (w .operand, w .end)
+
+  pub reading-within : ReadingWithin (readingOf s)
+  unfolding readingOf lineOf
+  reading-within = go (cardOf s) (card-within s) name-below
+    where
+      go : (c : Card) → CardWithin s c → NameBelow c → ReadingWithin (readingFrom s c)
+      go CardComment w n = tt
+      go CardBadName w n = tt
+      go (CardStatement f) w n = record { operand = w .operand; end = w .end; name = n }
+
+  pub line-within : (l : Line) → readingOf s ≡ Statement l → LineWithin l
+  line-within l e = subst ReadingWithin e reading-within

@@ -1,0 +1,2 @@
+-- The laws of lines that other crates cite.
+pub mod Laws

@@ -1,0 +1,4 @@
+-- The rules of the operation table, and the laws that other crates cite.
+pub mod Search
+pub mod Table
+pub mod Charts

@@ -1,0 +1,5 @@
+pub mod Rows
+pub mod Model10
+pub mod Sorted
+pub mod Codes
+pub mod Charts

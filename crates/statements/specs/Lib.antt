@@ -1,0 +1,5 @@
+pub mod Operands
+pub mod Kinds
+pub mod Codes
+pub mod Places
+pub mod Statements

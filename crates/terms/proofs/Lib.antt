@@ -1,0 +1,3 @@
+-- The laws of names and terms that other crates cite.
+pub mod Laws
+pub mod Within

@@ -1,0 +1,18 @@
+-- `appended` meets its contract: the product fits.
+use native.Mathlib.Omega.{arith}
+use Rattle.terms.proofs.Laws.{appended-fits}
+use borrow.Author.Needs.{needs}
+use Rattle.terms.proofs.appended.Statement.{statement}
+use Rattle.terms.proofs.appended.Tie as tie
+
+mul-result : tie.Need-mul-result
+mul-result c = omega (arith, appended-fits (c .args .value) (c .args .base) (omega arith) (omega arith))
+
+add-result : tie.Need-add-result
+add-result c = omega (arith, appended-fits (c .args .value) (c .args .base) (omega arith) (omega arith))
+
+returns : tie.Need-returns
+returns c = search needs
+
+pub appended-spec : {M : Type 1} → statement M
+appended-spec = tie.close (tie.spec mul-result add-result returns)

@@ -1,0 +1,44 @@
+-- `naming::name_byte` meets its contract.
+use native.Mathlib.Omega.{arith}
+use mathlib.Core.Path.{ap, _∙_}
+use borrow.Author.Tests.{lt-ltb, le-ltb}
+use Rattle.terms.specs.Names.{nameByte}
+use Rattle.letters.specs.Letters.{codeOf}
+use borrow.Author.Needs.{needs}
+use Rattle.terms.proofs.naming.name_byte.Statement.{statement}
+use Rattle.terms.proofs.naming.name_byte.Tie as tie
+
+add-if1 : tie.Need-add-if1
+add-if1 c = search needs
+
+add-byte-at : tie.Need-add-byte-at
+add-byte-at c = search needs
+
+byte-at-requires : tie.Need-byte-at-requires
+byte-at-requires c κs = search needs
+
+code-of-requires : tie.Need-code-of-requires
+code-of-requires c κs = search needs
+
+wide-requires : tie.Need-wide-requires
+wide-requires c κs = search needs
+
+returns : tie.Need-returns
+unfolding nameByte
+returns c = (rw (lt-ltb _ _ (c .before .before .before .if1 .taken)) (c .wide .ensures .0 ∙ c .before .code-of .ensures ∙ ap codeOf (c .before .before .byte-at .ensures)), c .wide .ensures .1)
+
+returns-2 : tie.Need-returns-2
+unfolding nameByte
+returns-2 c = (simp (le-ltb _ _ (c .if1 .left)), omega arith)
+
+pub name-byte-spec : {M : Type 1} → statement M
+name-byte-spec =
+    tie.close
+    (tie.spec
+    add-if1
+    add-byte-at
+    byte-at-requires
+    code-of-requires
+    wide-requires
+    returns
+    returns-2)

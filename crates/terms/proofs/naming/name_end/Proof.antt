@@ -1,0 +1,68 @@
+-- `naming::name_end` meets its contract. The invariant: the end from here, with the characters left, is the end from the start.
+use mathlib.Core.Bool.{true}
+use native.Mathlib.Omega.{arith}
+use mathlib.Core.Path.{_≡_, refl, sym, ap, _∙_}
+use borrow.Author.Tests.{not-true, not-false}
+use Prim.Native.Nat.{_-_, _≤_}
+use lib.ListN.{length}
+use borrow.Author.Needs.{needs}
+use Rattle.terms.specs.Names.{goesOnAt, nameEnd}
+use Rattle.letters.specs.Letters.{goesOnName}
+use Rattle.terms.proofs.Laws.{end-more, end-stop, end-none, inside-name}
+use Rattle.terms.proofs.naming.name_end.Statement.{statement}
+use Rattle.terms.proofs.naming.name_end.Tie as tie
+
+abbrev Inv-loop : tie.InvT-loop
+Inv-loop s at i₀ left₀ i left = (nameEnd left s i ≡ nameEnd 6 s at) × (at ≤ i) × (i ≤ length s)
+
+abbrev μ-loop : tie.MeasureT-loop
+μ-loop s at i₀ left₀ i left = left
+
+loop-holds : tie.Need-loop-holds Inv-loop μ-loop
+loop-holds c = (refl, omega arith, omega arith)
+
+class-at-requires : tie.Need-class-at-requires Inv-loop μ-loop
+class-at-requires c κs = search needs
+
+goes-on-name-requires : tie.Need-goes-on-name-requires Inv-loop μ-loop
+goes-on-name-requires c κs = search needs
+
+-- the test in the loop is whether the name goes on
+going : (c : tie.After-goes-on-name Inv-loop μ-loop) → c .goes-on-name .result ≡ goesOnAt (c .before .before .before .before .before .args .s .now) (c .before .before .before .loop .i)
+going c = c .goes-on-name .ensures ∙ ap goesOnName (c .before .class-at .ensures)
+
+returns : tie.Need-returns Inv-loop μ-loop
+returns c = (sym (end-stop (c .before .before .before .before .loop .left) (c .before .before .before .before .before .before .args .s .now) (c .before .before .before .before .loop .i) (sym (going (c .before)) ∙ not-true _ (c .if1 .taken))) ∙ c .before .before .before .before .loop .inv .0, omega arith, omega arith)
+
+add-i : tie.Need-add-i Inv-loop μ-loop
+add-i c = omega (arith, inside-name (c .before .before .before .before .before .before .args .s .now) (c .before .before .before .before .loop .i) (sym (going (c .before)) ∙ not-false _ (c .if1 .left)))
+
+sub-left : tie.Need-sub-left Inv-loop μ-loop
+sub-left c = omega arith
+
+loop-less : tie.Need-loop-less Inv-loop μ-loop
+loop-less c = omega arith
+
+loop-again : tie.Need-loop-again Inv-loop μ-loop
+loop-again c = let on : goesOnAt (c .before .before .before .before .before .before .args .s .now) (c .before .before .before .before .loop .i) ≡ true = sym (going (c .before)) ∙ not-false _ (c .if1 .left) in
+    let within = inside-name (c .before .before .before .before .before .before .args .s .now) (c .before .before .before .before .loop .i) on in
+    (sym (end-more (c .before .before .before .before .loop .left) (c .before .before .before .before .before .before .args .s .now) (c .before .before .before .before .loop .i) (c .before .before .before .loop-test .taken) on) ∙ c .before .before .before .before .loop .inv .0, omega arith, omega arith)
+
+returns-2 : tie.Need-returns-2 Inv-loop μ-loop
+returns-2 c = (sym (end-none (c .before .loop .left) (c .before .before .before .args .s .now) (c .before .loop .i) (omega arith)) ∙ c .before .loop .inv .0, omega arith, omega arith)
+
+pub name-end-spec : {M : Type 1} → statement M
+name-end-spec =
+    tie.close
+    (tie.spec
+    Inv-loop
+    μ-loop
+    loop-holds
+    class-at-requires
+    goes-on-name-requires
+    returns
+    add-i
+    sub-left
+    loop-less
+    loop-again
+    returns-2)

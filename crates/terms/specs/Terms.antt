@@ -1,0 +1,118 @@
+-- Document 01, "Terms and expressions": the term at a position. A bad one says the first position at which no term could go on.
+use Prim.Native.Nat.{ℕ, zero, suc, _+_, _*_}
+use Prim.Native.Char.{Char}
+use mathlib.Core.List.{List}
+use mathlib.Core.Bool.{Bool}
+use lib.ListN.{getD}
+use lib.Dec.{ltb, leb, eqb}
+use Rattle.values.specs.Tests.{pick}
+use Rattle.letters.specs.declared.Class.{Class}
+use Rattle.letters.specs.declared.Class.the-variants.{Letter, Digit, Sign, Blank, Refused}
+use Rattle.letters.specs.Text.{is}
+use Rattle.letters.specs.Letters.{classOf, isAccepted, codeOf, digitOf}
+use Rattle.terms.specs.Names.{nameAt}
+use Rattle.terms.specs.declared.Digits.{Digits}
+use Rattle.terms.specs.declared.Quoted.{Quoted}
+use Rattle.terms.specs.declared.Quoted.the-variants.{One, Closed, Nothing}
+use Rattle.terms.specs.declared.naming.Name.{Name}
+use Rattle.terms.specs.declared.naming.Name.the-variants.{Named, NoName}
+use Rattle.terms.specs.declared.Term.{Term}
+use Rattle.terms.specs.declared.Term.the-variants.{Number, Symbol, Here, Bad}
+
+-- a character stands at a position
+abbrev pub stands : Char → List ℕ → ℕ → Bool
+stands c s at = is c (getD s at 0)
+
+-- a digit of a base stands at a position
+abbrev pub digitAt : ℕ → List ℕ → ℕ → Bool
+digitAt base s at = ltb (digitOf (getD s at 0)) base
+
+-- the value v with the digit at a position behind it
+abbrev pub withDigit : ℕ → List ℕ → ℕ → ℕ → ℕ
+withDigit base s at v = v * base + digitOf (getD s at 0)
+
+-- at most n digits of a base from a position on, behind the value v, as long as the value is at most 65535; and the position behind them
+unfoldable pub digitsFrom : ℕ → ℕ → List ℕ → ℕ → ℕ → Digits
+digitsFrom zero base s at v = record { value = v; next = at }
+digitsFrom (suc n) base s at v =
+    pick (digitAt base s at)
+    (pick (leb (withDigit base s at v) 65535)
+    (digitsFrom n base s (at + 1) (withDigit base s at v))
+    (record { value = v; next = at }))
+    (record { value = v; next = at })
+
+-- "Decimal: 1 to 5 digits, at most 65535": a digit that follows them is one too many
+abbrev pub decimalOf : List ℕ → ℕ → Digits → Term
+decimalOf s at d =
+    pick (eqb (d .next) at) (Bad at) (pick (digitAt 10 s (d .next)) (Bad (d .next)) (Number (d .value) (d .next)))
+
+unfoldable pub decimalAt : List ℕ → ℕ → Term
+decimalAt s at = decimalOf s at (digitsFrom 5 10 s at 0)
+
+-- the closing apostrophe at a position ends a term
+unfoldable pub closedAt : List ℕ → ℕ → ℕ → Term
+closedAt s at v = pick (stands "'" s at) (Number v (at + 1)) (Bad at)
+
+-- 1 to n digits of a base from a position on, and the closing apostrophe
+abbrev pub numeralOf : List ℕ → ℕ → Digits → Term
+numeralOf s at d = pick (eqb (d .next) at) (Bad at) (closedAt s (d .next) (d .value))
+
+unfoldable pub numeralAt : ℕ → ℕ → List ℕ → ℕ → Term
+numeralAt n base s at = numeralOf s at (digitsFrom n base s at 0)
+
+-- "X'..': 1 to 4 hex digits", at the X
+unfoldable pub hexAt : List ℕ → ℕ → Term
+hexAt s at = numeralAt 4 16 s (at + 2)
+
+-- "B'..': 1 to 16 binary digits", at the B
+unfoldable pub binaryAt : List ℕ → ℕ → Term
+binaryAt s at = numeralAt 16 2 s (at + 2)
+
+-- inside apostrophes: one character with its code, "an apostrophe written twice"; or the closing apostrophe; or nothing, past the end. Each with the position behind it
+unfoldable pub quotedAt : List ℕ → ℕ → Quoted
+quotedAt s at =
+    pick (stands "'" s at) (pick (stands "'" s (at + 1)) (One (codeOf (getD s at 0)) (at + 2)) (Closed (at + 1)))
+    (pick (isAccepted (classOf (getD s at 0))) (One (codeOf (getD s at 0)) (at + 1)) (Nothing at))
+
+-- behind the first character, of code a: the second one and the closing apostrophe, or that apostrophe alone
+abbrev pub secondOf : List ℕ → ℕ → Quoted → Term
+secondOf s a (One b next) = closedAt s next (a * 256 + b)
+secondOf s a (Closed next) = Number a next
+secondOf s a (Nothing at) = Bad at
+
+-- without a character: C'' could only go on with the apostrophe that makes it one character
+abbrev pub firstOf : List ℕ → Quoted → Term
+firstOf s (One a next) = secondOf s a (quotedAt s next)
+firstOf s (Closed next) = Bad next
+firstOf s (Nothing at) = Bad at
+
+-- "C'..': 1 or 2 characters", at the C
+unfoldable pub charactersAt : List ℕ → ℕ → Term
+charactersAt s at = firstOf s (quotedAt s (at + 2))
+
+-- "A symbol"
+abbrev pub symbolOf : Name → Term
+symbolOf (Named number next) = Symbol number next
+symbolOf (NoName at) = Bad at
+
+unfoldable pub symbolAt : List ℕ → ℕ → Term
+symbolAt s at = symbolOf (nameAt s at)
+
+-- X, B or C and an apostrophe start a term of their kind; any other letter a symbol
+unfoldable pub letteredAt : List ℕ → ℕ → Term
+letteredAt s at =
+    pick (stands "'" s (at + 1))
+    (pick (stands "X" s at) (hexAt s at)
+    (pick (stands "B" s at) (binaryAt s at) (pick (stands "C" s at) (charactersAt s at) (symbolAt s at))))
+    (symbolAt s at)
+
+-- the term at a position, by the class of the character there. "`*` in a term's place": the counter, whatever stands around it
+abbrev pub termOf : List ℕ → ℕ → Class → Term
+termOf s at Letter = letteredAt s at
+termOf s at Digit = decimalAt s at
+termOf s at Sign = pick (stands "*" s at) (Here (at + 1)) (Bad at)
+termOf s at Blank = Bad at
+termOf s at Refused = Bad at
+
+unfoldable pub termAt : List ℕ → ℕ → Term
+termAt s at = termOf s at (classOf (getD s at 0))

@@ -1,0 +1,3 @@
+-- The theorems.
+mod Raised
+pub mod Raising
