@@ -177,16 +177,12 @@ impl Writer<'_> {
 
     /// The lengths of a card with two of them, each written or left to be implied.
     fn two_lengths(&mut self) -> [Option<String>; 2] {
-        let mut second = self.random.near(1..=16);
-        let mut first = second + self.random.near(0..=15);
+        let second = self.random.near(1..=16);
         if self.goes_wild() {
-            [first, second] = self.random.pick(&[
-                [17, 17],
-                [32, 17],
-                [second + 16, second],
-                [second - 1, second],
-            ]);
+            let wrong = [[17, 17], [32, 17], [second + 16, second], [second - 1, second], [0, 0]];
+            return self.random.pick(&wrong).map(|length| Some(length.to_string()));
         }
+        let first = second + self.random.near(0..=15);
         let lengths = [self.absolute(first..=first), self.absolute(second..=second)];
         lengths.map(|length| (!self.random.one_in(3)).then_some(length))
     }
