@@ -1,68 +1,50 @@
-use mathlib.Core.Path.{_≡_, refl, _∙_, sym, ap}
+-- `lone_value` meets its contract, case by case.
 use borrow.Author.Needs.{needs}
 use Rattle.statements.proofs.lone_value.Statement.{statement}
 use Rattle.statements.proofs.lone_value.Tie as tie
-use Rattle.statements.proofs.lone_value.Reads as reads
-use Rattle.statements.proofs.lone_value.Lts as lts
-use Rattle.expressions.proofs.value_in.Reads as value-in-reads
 
--- src/lib.rt:95:48
 enum-told : tie.Need-enum-told
 enum-told c = search needs
 
--- src/lib.rt:96:48
 enum-told-2 : tie.Need-enum-told-2
 enum-told-2 c = search needs
 
--- src/lib.rt:97:46
 enum-told-3 : tie.Need-enum-told-3
 enum-told-3 c = search needs
 
--- src/lib.rt:98:49
 enum-told-4 : tie.Need-enum-told-4
 enum-told-4 c = search needs
 
--- src/lib.rt:99:24
 enum-known-x : tie.Need-enum-known-x
 enum-known-x c = search needs
 
--- src/lib.rt:99:30
 value-in-requires : tie.Need-value-in-requires
 value-in-requires c κs = search needs
 
--- src/lib.rt:100:57
 enum-told-5 : tie.Need-enum-told-5
 enum-told-5 c = search needs
 
--- src/lib.rt:101:43
 enum-told-6 : tie.Need-enum-told-6
 enum-told-6 c = search needs
 
--- src/lib.rt:91:1
 returns : tie.Need-returns
 returns c = rw (c .enum-told .given .1)
 
--- src/lib.rt:91:1
 returns-2 : tie.Need-returns-2
 returns-2 c = rw (c .enum-told2 .given .1)
 
--- src/lib.rt:91:1
 returns-3 : tie.Need-returns-3
 returns-3 c = rw (c .enum-told3 .given .1)
 
--- src/lib.rt:91:1
 returns-4 : tie.Need-returns-4
 returns-4 c = rw (c .enum-told4 .given .1)
 
--- src/lib.rt:91:1
 returns-5 : tie.Need-returns-5
 returns-5 c = search needs
 
--- src/lib.rt:91:1
 returns-6 : tie.Need-returns-6
 returns-6 c = rw (c .enum-told5 .given .1)
 
--- src/lib.rt:91:1
 returns-7 : tie.Need-returns-7
 returns-7 c = rw (c .enum-told6 .given .1)
 

@@ -1,145 +1,105 @@
-use mathlib.Core.Path.{_≡_, refl, _∙_, sym, ap}
+-- `statement_from` meets its contract, case by case.
 use Rattle.statements.specs.Statements.{statementFrom}
 use borrow.Author.Needs.{needs}
 use Rattle.statements.proofs.statement_from.Statement.{statement}
 use Rattle.statements.proofs.statement_from.Tie as tie
-use Rattle.statements.proofs.statement_from.Reads as reads
-use Rattle.statements.proofs.statement_from.Lts as lts
-use Rattle.expressions.proofs.value_in.Reads as value-in-reads
-use Rattle.statements.proofs.codes.code_byte.Reads as code-byte-reads
-use Rattle.statements.proofs.codes.code_of.Reads as code-of-reads
-use Rattle.statements.proofs.jump_of.Reads as jump-of-reads
-use Rattle.statements.proofs.places.operand_in.Reads as operand-in-reads
-use Rattle.statements.proofs.places.operand_of.Reads as operand-of-reads
-use Rattle.statements.proofs.places.use_of.Reads as use-of-reads
 
--- src/lib.rt:71:23
 code-of-requires : tie.Need-code-of-requires
 code-of-requires c κs = search needs
 
--- src/lib.rt:71:9
 code-byte-requires : tie.Need-code-byte-requires
 code-byte-requires c κs = search needs
 
--- src/lib.rt:73:23
 enum-known-x : tie.Need-enum-known-x
 enum-known-x c = search needs
 
--- src/lib.rt:73:65
 operand-of-requires : tie.Need-operand-of-requires
 operand-of-requires c κs = search needs
 
--- src/lib.rt:73:54
 operand-in-requires : tie.Need-operand-in-requires
 operand-in-requires c κs = search needs
 
--- src/lib.rt:73:99
 operand-of-requires-2 : tie.Need-operand-of-requires-2
 operand-of-requires-2 c κs = search needs
 
--- src/lib.rt:73:88
 operand-in-requires-2 : tie.Need-operand-in-requires-2
 operand-in-requires-2 c κs = search needs
 
--- src/lib.rt:74:23
 enum-known-x-2 : tie.Need-enum-known-x-2
 enum-known-x-2 c = search needs
 
--- src/lib.rt:74:65
 operand-of-requires-3 : tie.Need-operand-of-requires-3
 operand-of-requires-3 c κs = search needs
 
--- src/lib.rt:74:54
 operand-in-requires-3 : tie.Need-operand-in-requires-3
 operand-in-requires-3 c κs = search needs
 
--- src/lib.rt:75:24
 enum-known-x-3 : tie.Need-enum-known-x-3
 enum-known-x-3 c = search needs
 
--- src/lib.rt:75:63
 operand-of-requires-4 : tie.Need-operand-of-requires-4
 operand-of-requires-4 c κs = search needs
 
--- src/lib.rt:75:52
 operand-in-requires-4 : tie.Need-operand-in-requires-4
 operand-in-requires-4 c κs = search needs
 
--- src/lib.rt:76:24
 enum-known-x-4 : tie.Need-enum-known-x-4
 enum-known-x-4 c = search needs
 
--- src/lib.rt:76:41
 use-of-requires : tie.Need-use-of-requires
 use-of-requires c κs = search needs
 
--- src/lib.rt:76:62
 value-in-requires : tie.Need-value-in-requires
 value-in-requires c κs = search needs
 
--- src/lib.rt:76:33
 jump-of-requires : tie.Need-jump-of-requires
 jump-of-requires c κs = search needs
 
--- src/lib.rt:77:24
 enum-known-x-5 : tie.Need-enum-known-x-5
 enum-known-x-5 c = search needs
 
--- src/lib.rt:77:38
 use-of-requires-2 : tie.Need-use-of-requires-2
 use-of-requires-2 c κs = search needs
 
--- src/lib.rt:77:59
 value-in-requires-2 : tie.Need-value-in-requires-2
 value-in-requires-2 c κs = search needs
 
--- src/lib.rt:77:30
 jump-of-requires-2 : tie.Need-jump-of-requires-2
 jump-of-requires-2 c κs = search needs
 
--- src/lib.rt:78:29
 enum-known-x-6 : tie.Need-enum-known-x-6
 enum-known-x-6 c = search needs
 
--- src/lib.rt:78:88
 value-in-requires-3 : tie.Need-value-in-requires-3
 value-in-requires-3 c κs = search needs
 
--- src/lib.rt:79:27
 enum-told : tie.Need-enum-told
 enum-told c = search needs
 
--- src/lib.rt:68:1
 returns : tie.Need-returns
 unfolding statementFrom
 returns c = rw (c .operand-in2 .ensures, c .before .operand-of2 .ensures, c .before .before .operand-in .ensures, c .before .before .before .operand-of .ensures, c .before .before .before .before .before .before .before .code-byte .ensures, c .before .before .before .before .before .before .before .before .code-of .ensures, c .before .before .before .before .before .x .given .1)
 
--- src/lib.rt:68:1
 returns-2 : tie.Need-returns-2
 unfolding statementFrom
 returns-2 c = rw (c .operand-in3 .ensures, c .before .operand-of3 .ensures, c .before .before .before .before .before .code-byte .ensures, c .before .before .before .before .before .before .code-of .ensures, c .before .before .before .x2 .given .1)
 
--- src/lib.rt:68:1
 returns-3 : tie.Need-returns-3
 unfolding statementFrom
 returns-3 c = rw (c .operand-in4 .ensures, c .before .operand-of4 .ensures, c .before .before .before .before .before .code-byte .ensures, c .before .before .before .before .before .before .code-of .ensures, c .before .before .before .x3 .given .1)
 
--- src/lib.rt:68:1
 returns-4 : tie.Need-returns-4
 unfolding statementFrom
 returns-4 c = rw (c .jump-of .ensures, c .before .value-in .ensures, c .before .before .use-of .ensures, c .before .before .before .before .before .before .code-byte .ensures, c .before .before .before .before .before .before .before .code-of .ensures, c .before .before .before .before .x4 .given .1)
 
--- src/lib.rt:68:1
 returns-5 : tie.Need-returns-5
 unfolding statementFrom
 returns-5 c = rw (c .jump-of2 .ensures, c .before .value-in2 .ensures, c .before .before .use-of2 .ensures, c .before .before .before .before .before .before .code-byte .ensures, c .before .before .before .before .before .before .before .code-of .ensures, c .before .before .before .before .x5 .given .1)
 
--- src/lib.rt:68:1
 returns-6 : tie.Need-returns-6
 unfolding statementFrom
 returns-6 c = rw (c .value-in3 .ensures, c .before .before .x6 .given .1)
 
--- src/lib.rt:68:1
 returns-7 : tie.Need-returns-7
 unfolding statementFrom
 returns-7 c = rw (c .enum-told .given .1)

@@ -1,65 +1,47 @@
-use mathlib.Core.Path.{_≡_, refl, _∙_, sym, ap}
+-- `behind_code` meets its contract, case by case.
 use borrow.Author.Needs.{needs}
 use Rattle.statements.proofs.codes.behind_code.Statement.{statement}
 use Rattle.statements.proofs.codes.behind_code.Tie as tie
-use Rattle.statements.proofs.codes.behind_code.Reads as reads
-use Rattle.statements.proofs.codes.behind_code.Lts as lts
-use Rattle.statements.proofs.codes.register_code.Reads as register-code-reads
-use Rattle.statements.proofs.codes.written_code.Reads as written-code-reads
 
--- src/codes.rt:133:26
 enum-told : tie.Need-enum-told
 enum-told c = search needs
 
--- src/codes.rt:134:25
 enum-told-2 : tie.Need-enum-told-2
 enum-told-2 c = search needs
 
--- src/codes.rt:135:23
 enum-told-3 : tie.Need-enum-told-3
 enum-told-3 c = search needs
 
--- src/codes.rt:136:27
 enum-told-4 : tie.Need-enum-told-4
 enum-told-4 c = search needs
 
--- src/codes.rt:136:27
 register-code-requires : tie.Need-register-code-requires
 register-code-requires c κs = search needs
 
--- src/codes.rt:137:26
 enum-told-5 : tie.Need-enum-told-5
 enum-told-5 c = search needs
 
--- src/codes.rt:137:26
 written-code-requires : tie.Need-written-code-requires
 written-code-requires c κs = search needs
 
--- src/codes.rt:138:21
 enum-known-rule : tie.Need-enum-known-rule
 enum-known-rule c = search needs
 
--- src/codes.rt:129:1
 returns : tie.Need-returns
 returns c = search needs
 
--- src/codes.rt:129:1
 returns-2 : tie.Need-returns-2
 returns-2 c = search needs
 
--- src/codes.rt:129:1
 returns-3 : tie.Need-returns-3
 returns-3 c = search needs
 
--- src/codes.rt:129:1
 returns-4 : tie.Need-returns-4
 returns-4 c = rw (c .register-code .ensures, c .before .enum-told4 .given .1)
 
--- src/codes.rt:129:1
 returns-5 : tie.Need-returns-5
 returns-5 c = rw (c .written-code .ensures, c .before .enum-told5 .given .1)
 
--- src/codes.rt:129:1
 returns-6 : tie.Need-returns-6
 returns-6 c = rw (c .before .rule .given .1)
 

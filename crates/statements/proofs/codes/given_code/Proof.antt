@@ -1,55 +1,41 @@
-use mathlib.Core.Path.{_≡_, refl, _∙_, sym, ap}
+-- `given_code` meets its contract, case by case.
 use borrow.Author.Needs.{needs}
 use Rattle.statements.proofs.codes.given_code.Statement.{statement}
 use Rattle.statements.proofs.codes.given_code.Tie as tie
-use Rattle.statements.proofs.codes.given_code.Reads as reads
-use Rattle.statements.proofs.codes.given_code.Lts as lts
 
--- src/codes.rt:147:26
 enum-told : tie.Need-enum-told
 enum-told c = search needs
 
--- src/codes.rt:148:25
 enum-told-2 : tie.Need-enum-told-2
 enum-told-2 c = search needs
 
--- src/codes.rt:149:23
 enum-told-3 : tie.Need-enum-told-3
 enum-told-3 c = search needs
 
--- src/codes.rt:150:27
 enum-told-4 : tie.Need-enum-told-4
 enum-told-4 c = search needs
 
--- src/codes.rt:151:26
 enum-told-5 : tie.Need-enum-told-5
 enum-told-5 c = search needs
 
--- src/codes.rt:152:21
 enum-known-rule : tie.Need-enum-known-rule
 enum-known-rule c = search needs
 
--- src/codes.rt:143:1
 returns : tie.Need-returns
 returns c = search needs
 
--- src/codes.rt:143:1
 returns-2 : tie.Need-returns-2
 returns-2 c = search needs
 
--- src/codes.rt:143:1
 returns-3 : tie.Need-returns-3
 returns-3 c = search needs
 
--- src/codes.rt:143:1
 returns-4 : tie.Need-returns-4
 returns-4 c = search needs
 
--- src/codes.rt:143:1
 returns-5 : tie.Need-returns-5
 returns-5 c = search needs
 
--- src/codes.rt:143:1
 returns-6 : tie.Need-returns-6
 returns-6 c = rw (c .before .rule .given .1)
 

@@ -1,45 +1,35 @@
-use borrow.Author.Tests.{eq-eqb, ne-eqb, lt-ltb, le-ltb, le-leb, lt-leb}
-use mathlib.Core.Path.{_≡_, refl, _∙_, sym, ap}
+-- `lengths_code` meets its contract, by the tests that led to each answer.
+use borrow.Author.Tests.{le-leb, lt-leb}
 use Rattle.statements.specs.Codes.{lengthsCode}
 use borrow.Author.Needs.{needs}
 use Rattle.statements.proofs.codes.lengths_code.Statement.{statement}
 use Rattle.statements.proofs.codes.lengths_code.Tie as tie
-use Rattle.statements.proofs.codes.lengths_code.Reads as reads
-use Rattle.statements.proofs.codes.lengths_code.Lts as lts
 
--- src/codes.rt:56:9
 returns : tie.Need-returns
 unfolding lengthsCode
 returns c = rw (lt-leb _ _ (c .if1 .taken))
 
--- src/codes.rt:59:9
 returns-2 : tie.Need-returns-2
 unfolding lengthsCode
 returns-2 c = rw (le-leb _ _ (c .before .if1 .left), lt-leb _ _ (c .if2 .taken))
 
--- src/codes.rt:62:9
 returns-3 : tie.Need-returns-3
 unfolding lengthsCode
 returns-3 c = rw (le-leb _ _ (c .before .before .if1 .left), le-leb _ _ (c .before .if2 .left), lt-leb _ _ (c .if3 .taken))
 
--- src/codes.rt:65:9
 returns-4 : tie.Need-returns-4
 unfolding lengthsCode
 returns-4 c = rw (le-leb _ _ (c .before .before .before .if1 .left), le-leb _ _ (c .before .before .if2 .left), le-leb _ _ (c .before .if3 .left), lt-leb _ _ (c .if4 .taken))
 
--- src/codes.rt:67:17
 mul-t5 : tie.Need-mul-t5
 mul-t5 c = search needs
 
--- src/codes.rt:67:17
 add-t7 : tie.Need-add-t7
 add-t7 c = search needs
 
--- src/codes.rt:67:16
 cast-t8 : tie.Need-cast-t8
 cast-t8 c = search needs
 
--- src/codes.rt:52:1
 returns-5 : tie.Need-returns-5
 unfolding lengthsCode
 returns-5 c = rw (le-leb _ _ (c .before .before .before .if1 .left), le-leb _ _ (c .before .before .if2 .left), le-leb _ _ (c .before .if3 .left), le-leb _ _ (c .if4 .left))

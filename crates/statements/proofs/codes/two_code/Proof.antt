@@ -1,95 +1,68 @@
-use mathlib.Core.Path.{_≡_, refl, _∙_, sym, ap}
+-- `two_code` meets its contract, case by case.
 use borrow.Author.Needs.{needs}
 use Rattle.statements.proofs.codes.two_code.Statement.{statement}
 use Rattle.statements.proofs.codes.two_code.Tie as tie
-use Rattle.statements.proofs.codes.two_code.Reads as reads
-use Rattle.statements.proofs.codes.two_code.Lts as lts
-use Rattle.statements.proofs.codes.item_code.Reads as item-code-reads
-use Rattle.statements.proofs.codes.length_code.Reads as length-code-reads
-use Rattle.statements.proofs.codes.lengths_code.Reads as lengths-code-reads
-use Rattle.statements.proofs.operands.amount_or.Reads as amount-or-reads
 
--- src/codes.rt:119:39
 enum-told : tie.Need-enum-told
 enum-told c = search needs
 
--- src/codes.rt:119:39
 amount-or-requires : tie.Need-amount-or-requires
 amount-or-requires c κs = search needs
 
--- src/codes.rt:119:68
 amount-or-requires-2 : tie.Need-amount-or-requires-2
 amount-or-requires-2 c κs = search needs
 
--- src/codes.rt:119:26
 lengths-code-requires : tie.Need-lengths-code-requires
 lengths-code-requires c κs = search needs
 
--- src/codes.rt:120:54
 enum-told-2 : tie.Need-enum-told-2
 enum-told-2 c = search needs
 
--- src/codes.rt:120:54
 amount-or-requires-3 : tie.Need-amount-or-requires-3
 amount-or-requires-3 c κs = search needs
 
--- src/codes.rt:120:37
 amount-or-requires-4 : tie.Need-amount-or-requires-4
 amount-or-requires-4 c κs = search needs
 
--- src/codes.rt:120:25
 length-code-requires : tie.Need-length-code-requires
 length-code-requires c κs = search needs
 
--- src/codes.rt:121:50
 enum-told-3 : tie.Need-enum-told-3
 enum-told-3 c = search needs
 
--- src/codes.rt:121:50
 amount-or-requires-5 : tie.Need-amount-or-requires-5
 amount-or-requires-5 c κs = search needs
 
--- src/codes.rt:121:33
 amount-or-requires-6 : tie.Need-amount-or-requires-6
 amount-or-requires-6 c κs = search needs
 
--- src/codes.rt:121:23
 item-code-requires : tie.Need-item-code-requires
 item-code-requires c κs = search needs
 
--- src/codes.rt:122:27
 enum-told-4 : tie.Need-enum-told-4
 enum-told-4 c = search needs
 
--- src/codes.rt:123:26
 enum-told-5 : tie.Need-enum-told-5
 enum-told-5 c = search needs
 
--- src/codes.rt:124:21
 enum-known-rule : tie.Need-enum-known-rule
 enum-known-rule c = search needs
 
--- src/codes.rt:113:1
 returns : tie.Need-returns
 returns c = rw (c .lengths-code .ensures, c .before .amount-or2 .ensures, c .before .before .amount-or .ensures, c .before .before .before .enum-told .given .1)
 
--- src/codes.rt:113:1
 returns-2 : tie.Need-returns-2
 returns-2 c = rw (c .length-code .ensures, c .before .amount-or4 .ensures, c .before .before .amount-or3 .ensures, c .before .before .before .enum-told2 .given .1)
 
--- src/codes.rt:113:1
 returns-3 : tie.Need-returns-3
 returns-3 c = rw (c .item-code .ensures, c .before .amount-or6 .ensures, c .before .before .amount-or5 .ensures, c .before .before .before .enum-told3 .given .1)
 
--- src/codes.rt:113:1
 returns-4 : tie.Need-returns-4
 returns-4 c = search needs
 
--- src/codes.rt:113:1
 returns-5 : tie.Need-returns-5
 returns-5 c = search needs
 
--- src/codes.rt:113:1
 returns-6 : tie.Need-returns-6
 returns-6 c = rw (c .before .rule .given .1)
 

@@ -1,135 +1,99 @@
-use mathlib.Core.Path.{_≡_, refl, _∙_, sym, ap}
+-- `expressions_no` meets its contract, case by case.
 use Rattle.statements.specs.Kinds.{expressionsNo}
 use borrow.Author.Needs.{needs}
 use Rattle.statements.proofs.kinds.expressions_no.Statement.{statement}
 use Rattle.statements.proofs.kinds.expressions_no.Tie as tie
-use Rattle.statements.proofs.kinds.expressions_no.Reads as reads
-use Rattle.statements.proofs.kinds.expressions_no.Lts as lts
-use Rattle.expressions.proofs.refusal_for.Reads as refusal-for-reads
-use Rattle.statements.proofs.kinds.address_wanted.Reads as address-wanted-reads
-use Rattle.statements.proofs.kinds.first_wanted.Reads as first-wanted-reads
-use Rattle.statements.proofs.kinds.place_no.Reads as place-no-reads
-use Rattle.statements.proofs.numbers.lower_of.Reads as lower-of-reads
 
--- src/kinds.rt:67:23
 enum-known-x : tie.Need-enum-known-x
 enum-known-x c = search needs
 
--- src/kinds.rt:67:41
 place-no-requires : tie.Need-place-no-requires
 place-no-requires c κs = search needs
 
--- src/kinds.rt:67:54
 place-no-requires-2 : tie.Need-place-no-requires-2
 place-no-requires-2 c κs = search needs
 
--- src/kinds.rt:67:32
 lower-of-requires : tie.Need-lower-of-requires
 lower-of-requires c κs = search needs
 
--- src/kinds.rt:68:23
 enum-known-x-2 : tie.Need-enum-known-x-2
 enum-known-x-2 c = search needs
 
--- src/kinds.rt:68:41
 place-no-requires-3 : tie.Need-place-no-requires-3
 place-no-requires-3 c κs = search needs
 
--- src/kinds.rt:68:54
 refusal-for-requires : tie.Need-refusal-for-requires
 refusal-for-requires c κs = search needs
 
--- src/kinds.rt:68:32
 lower-of-requires-2 : tie.Need-lower-of-requires-2
 lower-of-requires-2 c κs = search needs
 
--- src/kinds.rt:69:24
 enum-known-x-3 : tie.Need-enum-known-x-3
 enum-known-x-3 c = search needs
 
--- src/kinds.rt:69:30
 place-no-requires-4 : tie.Need-place-no-requires-4
 place-no-requires-4 c κs = search needs
 
--- src/kinds.rt:70:24
 enum-known-x-4 : tie.Need-enum-known-x-4
 enum-known-x-4 c = search needs
 
--- src/kinds.rt:70:54
 first-wanted-requires : tie.Need-first-wanted-requires
 first-wanted-requires c κs = search needs
 
--- src/kinds.rt:70:42
 refusal-for-requires-2 : tie.Need-refusal-for-requires-2
 refusal-for-requires-2 c κs = search needs
 
--- src/kinds.rt:70:76
 refusal-for-requires-3 : tie.Need-refusal-for-requires-3
 refusal-for-requires-3 c κs = search needs
 
--- src/kinds.rt:70:33
 lower-of-requires-3 : tie.Need-lower-of-requires-3
 lower-of-requires-3 c κs = search needs
 
--- src/kinds.rt:71:24
 enum-known-x-5 : tie.Need-enum-known-x-5
 enum-known-x-5 c = search needs
 
--- src/kinds.rt:71:42
 first-wanted-requires-2 : tie.Need-first-wanted-requires-2
 first-wanted-requires-2 c κs = search needs
 
--- src/kinds.rt:71:30
 refusal-for-requires-4 : tie.Need-refusal-for-requires-4
 refusal-for-requires-4 c κs = search needs
 
--- src/kinds.rt:72:32
 enum-known-x-6 : tie.Need-enum-known-x-6
 enum-known-x-6 c = search needs
 
--- src/kinds.rt:72:58
 address-wanted-requires : tie.Need-address-wanted-requires
 address-wanted-requires c κs = search needs
 
--- src/kinds.rt:72:46
 refusal-for-requires-5 : tie.Need-refusal-for-requires-5
 refusal-for-requires-5 c κs = search needs
 
--- src/kinds.rt:73:27
 enum-told : tie.Need-enum-told
 enum-told c = search needs
 
--- src/kinds.rt:63:1
 returns : tie.Need-returns
 unfolding expressionsNo
 returns c = rw (c .lower-of .ensures, c .before .place-no2 .ensures, c .before .before .place-no .ensures, c .before .before .before .before .x .given .1)
 
--- src/kinds.rt:63:1
 returns-2 : tie.Need-returns-2
 unfolding expressionsNo
 returns-2 c = rw (c .lower-of2 .ensures, c .before .refusal-for .ensures, c .before .before .place-no3 .ensures, c .before .before .before .before .x2 .given .1)
 
--- src/kinds.rt:63:1
 returns-3 : tie.Need-returns-3
 unfolding expressionsNo
 returns-3 c = rw (c .place-no4 .ensures, c .before .before .x3 .given .1)
 
--- src/kinds.rt:63:1
 returns-4 : tie.Need-returns-4
 unfolding expressionsNo
 returns-4 c = rw (c .lower-of3 .ensures, c .before .refusal-for3 .ensures, c .before .before .refusal-for2 .ensures, c .before .before .before .first-wanted .ensures, c .before .before .before .before .before .x4 .given .1)
 
--- src/kinds.rt:63:1
 returns-5 : tie.Need-returns-5
 unfolding expressionsNo
 returns-5 c = rw (c .refusal-for4 .ensures, c .before .first-wanted2 .ensures, c .before .before .before .x5 .given .1)
 
--- src/kinds.rt:63:1
 returns-6 : tie.Need-returns-6
 unfolding expressionsNo
 returns-6 c = rw (c .refusal-for5 .ensures, c .before .address-wanted .ensures, c .before .before .before .x6 .given .1)
 
--- src/kinds.rt:63:1
 returns-7 : tie.Need-returns-7
 unfolding expressionsNo
 returns-7 c = rw (c .enum-told .given .1)

@@ -1,27 +1,21 @@
-use borrow.Author.Tests.{eq-eqb, ne-eqb, lt-ltb, le-ltb, le-leb, lt-leb}
-use mathlib.Core.Path.{_≡_, refl, _∙_, sym, ap}
-use Rattle.values.specs.Tests.{orElse, lower}
+-- `lower_of` meets its contract, by the tests that led to each answer.
+use borrow.Author.Tests.{eq-eqb, ne-eqb, lt-ltb, le-ltb}
+use Rattle.values.specs.Tests.{lower}
 use Rattle.statements.proofs.numbers.lower_of.Statement.{statement}
 use Rattle.statements.proofs.numbers.lower_of.Tie as tie
-use Rattle.statements.proofs.numbers.lower_of.Reads as reads
-use Rattle.statements.proofs.numbers.lower_of.Lts as lts
 
--- src/numbers.rt:17:9
 returns : tie.Need-returns
 unfolding lower
 returns c = rw (eq-eqb _ _ (c .if1 .taken))
 
--- src/numbers.rt:20:9
 returns-2 : tie.Need-returns-2
 unfolding lower
 returns-2 c = rw (ne-eqb _ _ (c .before .if1 .left), eq-eqb _ _ (c .if2 .taken))
 
--- src/numbers.rt:13:1
 returns-3 : tie.Need-returns-3
 unfolding lower
 returns-3 c = rw (ne-eqb _ _ (c .before .before .if1 .left), ne-eqb _ _ (c .before .if2 .left), lt-ltb _ _ (c .if3 .taken))
 
--- src/numbers.rt:13:1
 returns-4 : tie.Need-returns-4
 unfolding lower
 returns-4 c = rw (ne-eqb _ _ (c .before .before .if1 .left), ne-eqb _ _ (c .before .if2 .left), le-ltb _ _ (c .if3 .left))

@@ -1,17 +1,13 @@
-use borrow.Author.Tests.{eq-eqb, ne-eqb, lt-ltb, le-ltb, le-leb, lt-leb}
-use mathlib.Core.Path.{_≡_, refl, _∙_, sym, ap}
-use Rattle.values.specs.Tests.{orElse, lower}
+-- `or_else` meets its contract, by its test.
+use borrow.Author.Tests.{eq-eqb, ne-eqb}
+use Rattle.values.specs.Tests.{orElse}
 use Rattle.statements.proofs.numbers.or_else.Statement.{statement}
 use Rattle.statements.proofs.numbers.or_else.Tie as tie
-use Rattle.statements.proofs.numbers.or_else.Reads as reads
-use Rattle.statements.proofs.numbers.or_else.Lts as lts
 
--- src/numbers.rt:6:1
 returns : tie.Need-returns
 unfolding orElse
 returns c = rw (eq-eqb _ _ (c .if1 .taken))
 
--- src/numbers.rt:6:1
 returns-2 : tie.Need-returns-2
 unfolding orElse
 returns-2 c = rw (ne-eqb _ _ (c .if1 .left))

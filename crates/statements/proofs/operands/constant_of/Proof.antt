@@ -1,44 +1,32 @@
-use mathlib.Core.Path.{_≡_, refl, _∙_, sym, ap}
+-- `constant_of` meets its contract, case by case.
 use borrow.Author.Needs.{needs}
 use Rattle.statements.proofs.operands.constant_of.Statement.{statement}
 use Rattle.statements.proofs.operands.constant_of.Tie as tie
-use Rattle.statements.proofs.operands.constant_of.Reads as reads
-use Rattle.statements.proofs.operands.constant_of.Lts as lts
-use Rattle.expressions.proofs.evaluate.Reads as evaluate-reads
 
--- src/operands.rt:100:33
 enum-told : tie.Need-enum-told
 enum-told c = search needs
 
--- src/operands.rt:101:34
 enum-told-2 : tie.Need-enum-told-2
 enum-told-2 c = search needs
 
--- src/operands.rt:102:30
 enum-told-3 : tie.Need-enum-told-3
 enum-told-3 c = search needs
 
--- src/operands.rt:103:70
 enum-told-4 : tie.Need-enum-told-4
 enum-told-4 c = search needs
 
--- src/operands.rt:103:70
 evaluate-requires : tie.Need-evaluate-requires
 evaluate-requires c κs = search needs
 
--- src/operands.rt:93:1
 returns : tie.Need-returns
 returns c = rw (c .enum-told .given .1)
 
--- src/operands.rt:93:1
 returns-2 : tie.Need-returns-2
 returns-2 c = rw (c .enum-told2 .given .1)
 
--- src/operands.rt:93:1
 returns-3 : tie.Need-returns-3
 returns-3 c = rw (c .enum-told3 .given .1)
 
--- src/operands.rt:93:1
 returns-4 : tie.Need-returns-4
 returns-4 c = rw (c .evaluate .ensures, c .before .enum-told4 .given .1)
 

@@ -1,149 +1,112 @@
-use mathlib.Core.Path.{_≡_, refl, _∙_, sym, ap}
+-- `operands_of` meets its contract, case by case.
 use Rattle.statements.specs.Operands.{operandsOf}
 use borrow.Author.Needs.{needs}
 use Rattle.statements.proofs.operands.operands_of.Statement.{statement}
 use Rattle.statements.proofs.operands.operands_of.Tie as tie
-use Rattle.statements.proofs.operands.operands_of.Reads as reads
-use Rattle.statements.proofs.operands.operands_of.Lts as lts
-use Rattle.expressions.proofs.evaluate.Reads as evaluate-reads
-use Rattle.statements.proofs.operands.constant_of.Reads as constant-of-reads
-use Rattle.statements.proofs.operands.place_of.Reads as place-of-reads
 
--- src/operands.rt:113:28
 enum-told : tie.Need-enum-told
 enum-told c = search needs
 
--- src/operands.rt:114:27
 enum-told-2 : tie.Need-enum-told-2
 enum-told-2 c = search needs
 
--- src/operands.rt:115:30
 enum-told-3 : tie.Need-enum-told-3
 enum-told-3 c = search needs
 
--- src/operands.rt:116:45
 enum-told-4 : tie.Need-enum-told-4
 enum-told-4 c = search needs
 
--- src/operands.rt:116:45
 evaluate-requires : tie.Need-evaluate-requires
 evaluate-requires c κs = search needs
 
--- src/operands.rt:117:21
 enum-known-shape : tie.Need-enum-known-shape
 enum-known-shape c = search needs
 
--- src/operands.rt:117:42
 evaluate-requires-2 : tie.Need-evaluate-requires-2
 evaluate-requires-2 c κs = search needs
 
--- src/operands.rt:117:78
 evaluate-requires-3 : tie.Need-evaluate-requires-3
 evaluate-requires-3 c κs = search needs
 
--- src/operands.rt:118:41
 enum-told-5 : tie.Need-enum-told-5
 enum-told-5 c = search needs
 
--- src/operands.rt:118:41
 evaluate-requires-4 : tie.Need-evaluate-requires-4
 evaluate-requires-4 c κs = search needs
 
--- src/operands.rt:119:20
 enum-known-shape-2 : tie.Need-enum-known-shape-2
 enum-known-shape-2 c = search needs
 
--- src/operands.rt:119:43
 place-of-requires : tie.Need-place-of-requires
 place-of-requires c κs = search needs
 
--- src/operands.rt:119:79
 place-of-requires-2 : tie.Need-place-of-requires-2
 place-of-requires-2 c κs = search needs
 
--- src/operands.rt:120:20
 enum-known-shape-3 : tie.Need-enum-known-shape-3
 enum-known-shape-3 c = search needs
 
--- src/operands.rt:120:43
 place-of-requires-3 : tie.Need-place-of-requires-3
 place-of-requires-3 c κs = search needs
 
--- src/operands.rt:120:79
 evaluate-requires-5 : tie.Need-evaluate-requires-5
 evaluate-requires-5 c κs = search needs
 
--- src/operands.rt:121:21
 enum-known-shape-4 : tie.Need-enum-known-shape-4
 enum-known-shape-4 c = search needs
 
--- src/operands.rt:121:42
 place-of-requires-4 : tie.Need-place-of-requires-4
 place-of-requires-4 c κs = search needs
 
--- src/operands.rt:122:25
 enum-known-shape-5 : tie.Need-enum-known-shape-5
 enum-known-shape-5 c = search needs
 
--- src/operands.rt:122:31
 constant-of-requires : tie.Need-constant-of-requires
 constant-of-requires c κs = search needs
 
--- src/operands.rt:123:30
 enum-told-6 : tie.Need-enum-told-6
 enum-told-6 c = search needs
 
--- src/operands.rt:108:1
 returns : tie.Need-returns
 unfolding operandsOf
 returns c = rw (c .enum-told .given .1)
 
--- src/operands.rt:108:1
 returns-2 : tie.Need-returns-2
 unfolding operandsOf
 returns-2 c = rw (c .enum-told2 .given .1)
 
--- src/operands.rt:108:1
 returns-3 : tie.Need-returns-3
 unfolding operandsOf
 returns-3 c = rw (c .enum-told3 .given .1)
 
--- src/operands.rt:108:1
 returns-4 : tie.Need-returns-4
 unfolding operandsOf
 returns-4 c = rw (c .evaluate .ensures, c .before .enum-told4 .given .1)
 
--- src/operands.rt:108:1
 returns-5 : tie.Need-returns-5
 unfolding operandsOf
 returns-5 c = rw (c .evaluate3 .ensures, c .before .evaluate2 .ensures, c .before .before .before .shape .given .1)
 
--- src/operands.rt:108:1
 returns-6 : tie.Need-returns-6
 unfolding operandsOf
 returns-6 c = rw (c .evaluate4 .ensures, c .before .enum-told5 .given .1)
 
--- src/operands.rt:108:1
 returns-7 : tie.Need-returns-7
 unfolding operandsOf
 returns-7 c = rw (c .place-of2 .ensures, c .before .place-of .ensures, c .before .before .before .shape2 .given .1)
 
--- src/operands.rt:108:1
 returns-8 : tie.Need-returns-8
 unfolding operandsOf
 returns-8 c = rw (c .evaluate5 .ensures, c .before .place-of3 .ensures, c .before .before .before .shape3 .given .1)
 
--- src/operands.rt:108:1
 returns-9 : tie.Need-returns-9
 unfolding operandsOf
 returns-9 c = rw (c .place-of4 .ensures, c .before .before .shape4 .given .1)
 
--- src/operands.rt:108:1
 returns-10 : tie.Need-returns-10
 unfolding operandsOf
 returns-10 c = rw (c .constant-of .ensures, c .before .before .shape5 .given .1)
 
--- src/operands.rt:108:1
 returns-11 : tie.Need-returns-11
 unfolding operandsOf
 returns-11 c = rw (c .enum-told6 .given .1)

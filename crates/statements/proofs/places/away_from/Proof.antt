@@ -1,27 +1,21 @@
-use borrow.Author.Tests.{eq-eqb, ne-eqb, lt-ltb, le-ltb, le-leb, lt-leb}
-use mathlib.Core.Path.{_≡_, refl, _∙_, sym, ap}
+-- `away_from` meets its contract, by the tests that led to each answer.
+use borrow.Author.Tests.{le-leb, lt-leb}
 use Rattle.statements.specs.Places.{awayFrom}
 use borrow.Author.Needs.{needs}
 use Rattle.statements.proofs.places.away_from.Statement.{statement}
 use Rattle.statements.proofs.places.away_from.Tie as tie
-use Rattle.statements.proofs.places.away_from.Reads as reads
-use Rattle.statements.proofs.places.away_from.Lts as lts
 
--- src/places.rt:87:9
 returns : tie.Need-returns
 unfolding awayFrom
 returns c = rw (lt-leb _ _ (c .if1 .taken))
 
--- src/places.rt:90:9
 returns-2 : tie.Need-returns-2
 unfolding awayFrom
 returns-2 c = rw (le-leb _ _ (c .before .if1 .left), lt-leb _ _ (c .if2 .taken))
 
--- src/places.rt:92:39
 cast-t7 : tie.Need-cast-t7
 cast-t7 c = search needs
 
--- src/places.rt:83:1
 returns-3 : tie.Need-returns-3
 unfolding awayFrom
 returns-3 c = rw (le-leb _ _ (c .before .if1 .left), le-leb _ _ (c .if2 .left))

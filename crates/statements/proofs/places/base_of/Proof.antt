@@ -1,15 +1,11 @@
-use borrow.Author.Tests.{eq-eqb, ne-eqb, lt-ltb, le-ltb, le-leb, lt-leb}
-use mathlib.Core.Path.{_≡_, refl, _∙_, sym, ap}
+-- `base_of` meets its contract, by its test.
+use borrow.Author.Tests.{eq-eqb, ne-eqb}
 use Rattle.statements.proofs.places.base_of.Statement.{statement}
 use Rattle.statements.proofs.places.base_of.Tie as tie
-use Rattle.statements.proofs.places.base_of.Reads as reads
-use Rattle.statements.proofs.places.base_of.Lts as lts
 
--- src/places.rt:74:1
 returns : tie.Need-returns
 returns c = rw (eq-eqb _ _ (c .if1 .taken))
 
--- src/places.rt:74:1
 returns-2 : tie.Need-returns-2
 returns-2 c = rw (ne-eqb _ _ (c .if1 .left))
 

@@ -1,39 +1,29 @@
-use mathlib.Core.Path.{_≡_, refl, _∙_, sym, ap}
+-- `bases_by` meets its contract, case by case.
 use Rattle.statements.specs.Places.{basesBy}
 use borrow.Author.Needs.{needs}
 use Rattle.statements.proofs.places.bases_by.Statement.{statement}
 use Rattle.statements.proofs.places.bases_by.Tie as tie
-use Rattle.statements.proofs.places.bases_by.Reads as reads
-use Rattle.statements.proofs.places.bases_by.Lts as lts
-use Rattle.statements.proofs.places.registered.Reads as registered-reads
 
--- src/places.rt:264:23
 enum-told : tie.Need-enum-told
 enum-told c = search needs
 
--- src/places.rt:265:27
 enum-told-2 : tie.Need-enum-told-2
 enum-told-2 c = search needs
 
--- src/places.rt:265:27
 registered-requires : tie.Need-registered-requires
 registered-requires c κs = search needs
 
--- src/places.rt:266:25
 enum-told-3 : tie.Need-enum-told-3
 enum-told-3 c = search needs
 
--- src/places.rt:260:1
 returns : tie.Need-returns
 unfolding basesBy
 returns c = rw (c .enum-told .given .1)
 
--- src/places.rt:260:1
 returns-2 : tie.Need-returns-2
 unfolding basesBy
 returns-2 c = rw (c .registered .ensures, c .before .enum-told2 .given .1)
 
--- src/places.rt:260:1
 returns-3 : tie.Need-returns-3
 unfolding basesBy
 returns-3 c = rw (c .enum-told3 .given .1)

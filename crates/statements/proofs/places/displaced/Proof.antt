@@ -1,35 +1,25 @@
-use mathlib.Core.Path.{_≡_, refl, _∙_, sym, ap}
+-- `displaced` meets its contract, case by case.
 use Rattle.statements.specs.Places.{displacedBy}
 use borrow.Author.Needs.{needs}
 use Rattle.statements.proofs.places.displaced.Statement.{statement}
 use Rattle.statements.proofs.places.displaced.Tie as tie
-use Rattle.statements.proofs.places.displaced.Reads as reads
-use Rattle.statements.proofs.places.displaced.Lts as lts
-use Rattle.statements.proofs.places.away_from.Reads as away-from-reads
-use Rattle.statements.proofs.places.under_base.Reads as under-base-reads
 
--- src/places.rt:117:25
 enum-known-v : tie.Need-enum-known-v
 enum-known-v c = search needs
 
--- src/places.rt:117:31
 away-from-requires : tie.Need-away-from-requires
 away-from-requires c κs = search needs
 
--- src/places.rt:118:28
 enum-known-v-2 : tie.Need-enum-known-v-2
 enum-known-v-2 c = search needs
 
--- src/places.rt:118:34
 under-base-requires : tie.Need-under-base-requires
 under-base-requires c κs = search needs
 
--- src/places.rt:113:1
 returns : tie.Need-returns
 unfolding displacedBy
 returns c = rw (c .away-from .ensures, c .before .before .v .given .1)
 
--- src/places.rt:113:1
 returns-2 : tie.Need-returns-2
 unfolding displacedBy
 returns-2 c = rw (c .under-base .ensures, c .before .before .v2 .given .1)

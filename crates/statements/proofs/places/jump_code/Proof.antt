@@ -1,40 +1,30 @@
-use borrow.Author.Tests.{eq-eqb, ne-eqb, lt-ltb, le-ltb, le-leb, lt-leb}
-use mathlib.Core.Path.{_≡_, refl, _∙_, sym, ap}
+-- `jump_code` meets its contract, by the tests that led to each answer.
+use borrow.Author.Tests.{le-leb, lt-leb}
 use Rattle.statements.specs.Places.{jumpCode}
 use borrow.Author.Needs.{needs}
 use Rattle.statements.proofs.places.jump_code.Statement.{statement}
 use Rattle.statements.proofs.places.jump_code.Tie as tie
-use Rattle.statements.proofs.places.jump_code.Reads as reads
-use Rattle.statements.proofs.places.jump_code.Lts as lts
-use Rattle.names.proofs.amount_of.Reads as amount-of-reads
 
--- src/places.rt:176:14
 amount-of-requires : tie.Need-amount-of-requires
 amount-of-requires c κs = search needs
 
--- src/places.rt:176:14
 cast-to : tie.Need-cast-to
 cast-to c = search needs
 
--- src/places.rt:177:16
 add-next : tie.Need-add-next
 add-next c = search needs
 
--- src/places.rt:179:9
 returns : tie.Need-returns
 unfolding jumpCode
 returns c = rw (← c .before .amount-of .ensures, lt-leb _ _ (c .if1 .taken))
 
--- src/places.rt:182:9
 returns-2 : tie.Need-returns-2
 unfolding jumpCode
 returns-2 c = rw (← c .before .before .amount-of .ensures, le-leb _ _ (c .before .if1 .left), lt-leb _ _ (c .if2 .taken))
 
--- src/places.rt:184:16
 cast-t8 : tie.Need-cast-t8
 cast-t8 c = search needs
 
--- src/places.rt:173:1
 returns-3 : tie.Need-returns-3
 unfolding jumpCode
 returns-3 c = rw (← c .before .before .amount-of .ensures, le-leb _ _ (c .before .if1 .left), le-leb _ _ (c .if2 .left))

@@ -1,31 +1,23 @@
-use mathlib.Core.Path.{_≡_, refl, _∙_, sym, ap}
+-- `operand_in` meets its contract, case by case.
 use borrow.Author.Needs.{needs}
 use Rattle.statements.proofs.places.operand_in.Statement.{statement}
 use Rattle.statements.proofs.places.operand_in.Tie as tie
-use Rattle.statements.proofs.places.operand_in.Reads as reads
-use Rattle.statements.proofs.places.operand_in.Lts as lts
 
--- src/places.rt:166:20
 enum-known-p : tie.Need-enum-known-p
 enum-known-p c = search needs
 
--- src/places.rt:167:60
 enum-told : tie.Need-enum-told
 enum-told c = search needs
 
--- src/places.rt:168:64
 enum-told-2 : tie.Need-enum-told-2
 enum-told-2 c = search needs
 
--- src/places.rt:162:1
 returns : tie.Need-returns
 returns c = search needs
 
--- src/places.rt:162:1
 returns-2 : tie.Need-returns-2
 returns-2 c = rw (c .enum-told .given .1)
 
--- src/places.rt:162:1
 returns-3 : tie.Need-returns-3
 returns-3 c = rw (c .enum-told2 .given .1)
 

@@ -1,118 +1,87 @@
-use mathlib.Core.Path.{_≡_, refl, _∙_, sym, ap}
+-- `places_no` meets its contract, case by case.
 use Rattle.statements.specs.Places.{placesNo}
 use borrow.Author.Needs.{needs}
 use Rattle.statements.proofs.places.places_no.Statement.{statement}
 use Rattle.statements.proofs.places.places_no.Tie as tie
-use Rattle.statements.proofs.places.places_no.Reads as reads
-use Rattle.statements.proofs.places.places_no.Lts as lts
-use Rattle.statements.proofs.numbers.lower_of.Reads as lower-of-reads
-use Rattle.statements.proofs.places.operand_of.Reads as operand-of-reads
-use Rattle.statements.proofs.places.placed_no.Reads as placed-no-reads
-use Rattle.statements.proofs.places.use_no.Reads as use-no-reads
 
--- src/places.rt:223:23
 enum-known-x : tie.Need-enum-known-x
 enum-known-x c = search needs
 
--- src/places.rt:223:51
 operand-of-requires : tie.Need-operand-of-requires
 operand-of-requires c κs = search needs
 
--- src/places.rt:223:41
 placed-no-requires : tie.Need-placed-no-requires
 placed-no-requires c κs = search needs
 
--- src/places.rt:223:84
 operand-of-requires-2 : tie.Need-operand-of-requires-2
 operand-of-requires-2 c κs = search needs
 
--- src/places.rt:223:74
 placed-no-requires-2 : tie.Need-placed-no-requires-2
 placed-no-requires-2 c κs = search needs
 
--- src/places.rt:223:32
 lower-of-requires : tie.Need-lower-of-requires
 lower-of-requires c κs = search needs
 
--- src/places.rt:224:23
 enum-known-x-2 : tie.Need-enum-known-x-2
 enum-known-x-2 c = search needs
 
--- src/places.rt:224:42
 operand-of-requires-3 : tie.Need-operand-of-requires-3
 operand-of-requires-3 c κs = search needs
 
--- src/places.rt:224:32
 placed-no-requires-3 : tie.Need-placed-no-requires-3
 placed-no-requires-3 c κs = search needs
 
--- src/places.rt:225:24
 enum-known-x-3 : tie.Need-enum-known-x-3
 enum-known-x-3 c = search needs
 
--- src/places.rt:225:40
 operand-of-requires-4 : tie.Need-operand-of-requires-4
 operand-of-requires-4 c κs = search needs
 
--- src/places.rt:225:30
 placed-no-requires-4 : tie.Need-placed-no-requires-4
 placed-no-requires-4 c κs = search needs
 
--- src/places.rt:226:24
 enum-known-x-4 : tie.Need-enum-known-x-4
 enum-known-x-4 c = search needs
 
--- src/places.rt:226:36
 use-no-requires : tie.Need-use-no-requires
 use-no-requires c κs = search needs
 
--- src/places.rt:227:24
 enum-known-x-5 : tie.Need-enum-known-x-5
 enum-known-x-5 c = search needs
 
--- src/places.rt:227:30
 use-no-requires-2 : tie.Need-use-no-requires-2
 use-no-requires-2 c κs = search needs
 
--- src/places.rt:228:41
 enum-told : tie.Need-enum-told
 enum-told c = search needs
 
--- src/places.rt:229:27
 enum-told-2 : tie.Need-enum-told-2
 enum-told-2 c = search needs
 
--- src/places.rt:219:1
 returns : tie.Need-returns
 unfolding placesNo
 returns c = rw (c .lower-of .ensures, c .before .placed-no2 .ensures, c .before .before .operand-of2 .ensures, c .before .before .before .placed-no .ensures, c .before .before .before .before .operand-of .ensures, c .before .before .before .before .before .before .x .given .1)
 
--- src/places.rt:219:1
 returns-2 : tie.Need-returns-2
 unfolding placesNo
 returns-2 c = rw (c .placed-no3 .ensures, c .before .operand-of3 .ensures, c .before .before .before .x2 .given .1)
 
--- src/places.rt:219:1
 returns-3 : tie.Need-returns-3
 unfolding placesNo
 returns-3 c = rw (c .placed-no4 .ensures, c .before .operand-of4 .ensures, c .before .before .before .x3 .given .1)
 
--- src/places.rt:219:1
 returns-4 : tie.Need-returns-4
 unfolding placesNo
 returns-4 c = rw (c .use-no .ensures, c .before .before .x4 .given .1)
 
--- src/places.rt:219:1
 returns-5 : tie.Need-returns-5
 unfolding placesNo
 returns-5 c = rw (c .use-no2 .ensures, c .before .before .x5 .given .1)
 
--- src/places.rt:219:1
 returns-6 : tie.Need-returns-6
 unfolding placesNo
 returns-6 c = rw (c .enum-told .given .1)
 
--- src/places.rt:219:1
 returns-7 : tie.Need-returns-7
 unfolding placesNo
 returns-7 c = rw (c .enum-told2 .given .1)

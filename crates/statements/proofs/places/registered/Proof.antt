@@ -1,86 +1,62 @@
-use mathlib.Core.Path.{_≡_, refl, _∙_, sym, ap}
+-- `registered` meets its contract, case by case.
 use borrow.Author.Needs.{needs}
 use Rattle.statements.proofs.places.registered.Statement.{statement}
 use Rattle.statements.proofs.places.registered.Tie as tie
-use Rattle.statements.proofs.places.registered.Reads as reads
-use Rattle.statements.proofs.places.registered.Lts as lts
-use Rattle.expressions.proofs.value_in.Reads as value-in-reads
-use Rattle.statements.proofs.operands.amount_in.Reads as amount-in-reads
-use Rattle.statements.proofs.places.with_base.Reads as with-base-reads
 
--- src/places.rt:252:32
 enum-told : tie.Need-enum-told
 enum-told c = search needs
 
--- src/places.rt:253:32
 enum-told-2 : tie.Need-enum-told-2
 enum-told-2 c = search needs
 
--- src/places.rt:254:30
 enum-told-3 : tie.Need-enum-told-3
 enum-told-3 c = search needs
 
--- src/places.rt:255:24
 enum-known-x : tie.Need-enum-known-x
 enum-known-x c = search needs
 
--- src/places.rt:255:50
 amount-in-requires : tie.Need-amount-in-requires
 amount-in-requires c κs = search needs
 
--- src/places.rt:255:73
 value-in-requires : tie.Need-value-in-requires
 value-in-requires c κs = search needs
 
--- src/places.rt:255:33
 with-base-requires : tie.Need-with-base-requires
 with-base-requires c κs = search needs
 
--- src/places.rt:256:24
 enum-known-x-2 : tie.Need-enum-known-x-2
 enum-known-x-2 c = search needs
 
--- src/places.rt:256:47
 amount-in-requires-2 : tie.Need-amount-in-requires-2
 amount-in-requires-2 c κs = search needs
 
--- src/places.rt:256:30
 with-base-requires-2 : tie.Need-with-base-requires-2
 with-base-requires-2 c κs = search needs
 
--- src/places.rt:257:41
 enum-told-4 : tie.Need-enum-told-4
 enum-told-4 c = search needs
 
--- src/places.rt:258:27
 enum-told-5 : tie.Need-enum-told-5
 enum-told-5 c = search needs
 
--- src/places.rt:248:1
 returns : tie.Need-returns
 returns c = rw (c .enum-told .given .1)
 
--- src/places.rt:248:1
 returns-2 : tie.Need-returns-2
 returns-2 c = rw (c .enum-told2 .given .1)
 
--- src/places.rt:248:1
 returns-3 : tie.Need-returns-3
 returns-3 c = rw (c .enum-told3 .given .1)
 
--- src/places.rt:248:1
 returns-4 : tie.Need-returns-4
 returns-4 c = rw (c .with-base .ensures, c .before .value-in .ensures, c .before .before .amount-in .ensures, c .before .before .before .before .x .given .1)
 
--- src/places.rt:248:1
 returns-5 : tie.Need-returns-5
 returns-5 c = rw (c .with-base2 .ensures, c .before .amount-in2 .ensures, c .before .before .before .x2 .given .1)
 
--- src/places.rt:248:1
 returns-6 : tie.Need-returns-6
 returns-6 c = rw (c .enum-told4 .given .1)
 
--- src/places.rt:248:1
 returns-7 : tie.Need-returns-7
 returns-7 c = rw (c .enum-told5 .given .1)
 

@@ -1,19 +1,14 @@
-use borrow.Author.Tests.{eq-eqb, ne-eqb, lt-ltb, le-ltb, le-leb, lt-leb}
-use mathlib.Core.Path.{_≡_, refl, _∙_, sym, ap}
+-- `with_base` meets its contract, by the tests that led to each answer.
+use borrow.Author.Tests.{eq-eqb, ne-eqb}
 use Rattle.statements.proofs.places.with_base.Statement.{statement}
 use Rattle.statements.proofs.places.with_base.Tie as tie
-use Rattle.statements.proofs.places.with_base.Reads as reads
-use Rattle.statements.proofs.places.with_base.Lts as lts
 
--- src/places.rt:237:9
 returns : tie.Need-returns
 returns c = rw (eq-eqb _ _ (c .if1 .taken))
 
--- src/places.rt:240:9
 returns-2 : tie.Need-returns-2
 returns-2 c = rw (ne-eqb _ _ (c .before .if1 .left), eq-eqb _ _ (c .if2 .taken))
 
--- src/places.rt:231:1
 returns-3 : tie.Need-returns-3
 returns-3 c = rw (ne-eqb _ _ (c .before .if1 .left), ne-eqb _ _ (c .if2 .left))
 
