@@ -103,10 +103,6 @@ pairs-done m to n i s at h = let k : n - i ≡ 0 = omega arith in rw k
 pub fill-done : (m : List ℕ) (to n i b : ℕ) → n ≤ i → sets m to (replicate (n - i) b) ≡ m
 fill-done m to n i b h = let k : n - i ≡ 0 = omega arith in rw k
 
--- two runs stored in a row
-pub then : (m p q : List ℕ) (to at : ℕ) (us vs : List ℕ) → p ≡ sets m to us → at ≡ to + length us → q ≡ sets p at vs → q ≡ sets m to (us ++ vs)
-then m p q to at us vs e f g = g ∙ rw (e, f) (sym (sets-append m to us vs))
-
 -- a copy, and those behind it
 pub copies-more : (m p : List ℕ) (at n w : ℕ) (t : List ℕ) → 0 < n → p ≡ sets m at t → length t ≡ w → sets m at (repeated n t) ≡ sets p (at + w) (repeated (n - 1) t)
 unfolding repeated

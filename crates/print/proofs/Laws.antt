@@ -8,7 +8,7 @@ use lib.ListN.{length, getD, drop, set, length-append, drop-of-length-le}
 use lib.Seq.{sets, length-sets}
 use borrow.Author.Tests.{lt-ltb, le-ltb, le-leb, lt-leb, eq-eqb, ne-eqb}
 use Rattle.values.specs.Words.{twoBytes, part}
-use Rattle.values.proofs.Laws.{drop-turn, part-length, sets-append}
+use Rattle.values.proofs.Laws.{drop-turn, part-length, then}
 use Rattle.book.specs.Book.{Record}
 use Rattle.book.specs.Reading.{layoutOf, recordsIn}
 use Rattle.book.specs.declared.Entry.{Entry}
@@ -48,9 +48,6 @@ pub column-last : (m : List ℕ) (at : ℕ) (bs : List ℕ) (i end : ℕ) → le
 column-last m at bs i end h = rw (drop-of-length-le bs h, column-none)
 
 -- ONE WRITE AFTER ANOTHER
-
-pub then : (m m₁ m₂ : List ℕ) (at p : ℕ) (us vs : List ℕ) → m₁ ≡ sets m at us → p ≡ at + length us → m₂ ≡ sets m₁ p vs → m₂ ≡ sets m at (us ++ vs)
-then m m₁ m₂ at p us vs a b c = c ∙ ap (λ l. sets l p vs) a ∙ ap (λ n. sets (sets m at us) n vs) b ∙ sym (sets-append m at us vs)
 
 pub then-column : (m m₁ m₂ : List ℕ) (at p : ℕ) (bs : List ℕ) (end : ℕ) (vs : List ℕ) → m₁ ≡ sets m at (column bs end) → p ≡ at + (2 * length bs + 1) → m₂ ≡ sets m₁ p vs
     → m₂ ≡ sets m at (column bs end ++ vs)

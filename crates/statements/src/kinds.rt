@@ -1,11 +1,11 @@
 // Refusals 18, 19 and 20 over all expressions of a card: the kind that each place wants.
-use crate::numbers::lower_of;
 use crate::operands::Operands;
 use crate::operands::Place;
 use crate::operands::Valued;
 use expressions::Wanted;
 use expressions::refusal_for;
 use operations::Operation;
+use values::numbers::lower_of;
 ghost use mathlib.Core.Path.{_≡_};
 ghost use Rattle.statements.specs.Kinds.{firstWanted, addressWanted, itemNo, placeNo, expressionsNo};
 

@@ -1,7 +1,6 @@
 // What an instruction or a card of the assembler's own means: its statement, or the lowest of refusals 18 to 23, from its shape, the names, the counter and the bases.
 pub mod codes;
 pub mod kinds;
-pub mod numbers;
 pub mod operands;
 pub mod places;
 
@@ -11,7 +10,6 @@ use codes::code_of;
 use expressions::value_in;
 use forms::Shape;
 use kinds::expressions_no;
-use numbers::or_else;
 use operands::Operands;
 use operands::operands_of;
 use operations::Operation;
@@ -26,6 +24,7 @@ use places::places_no;
 use places::use_of;
 use values::Absolute;
 use values::Value;
+use values::numbers::or_else;
 ghost use mathlib.Core.Path.{_≡_};
 ghost use mathlib.Core.Bool.{true};
 ghost use Prim.Native.Nat.{_*_, _≤_};

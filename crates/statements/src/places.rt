@@ -1,6 +1,5 @@
 // Where operands lie: direct, or by a register under the bases in force; how far a jump goes; refusals 22 and 23.
 use crate::codes::Code;
-use crate::numbers::lower_of;
 use crate::operands::Operands;
 use crate::operands::Place;
 use crate::operands::Valued;
@@ -11,6 +10,7 @@ use names::amount_of;
 use operations::Operation;
 use values::Absolute;
 use values::Value;
+use values::numbers::lower_of;
 ghost use mathlib.Core.Path.{_≡_};
 ghost use Rattle.statements.specs.Places.{useOf, baseOf, awayFrom, awayFromBase, underBase, displacedBy, indexedBy, byRegister, operandOf, placedNo, operandIn, jumpCode, reachNo, registerNo, useNo, placesNo, withBase, registeredBy, basesBy};
 

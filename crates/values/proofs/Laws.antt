@@ -101,6 +101,10 @@ sets-append m at (u ∷ us) vs =
     let e : at + suc (length us) ≡ suc at + length us = omega arith in
     rw e (sets-append (set m at u) (suc at) us vs)
 
+-- one write after another, the second from where the first ended
+pub then : (m m₁ m₂ : List ℕ) (at p : ℕ) (us vs : List ℕ) → m₁ ≡ sets m at us → p ≡ at + length us → m₂ ≡ sets m₁ p vs → m₂ ≡ sets m at (us ++ vs)
+then m m₁ m₂ at p us vs a b c = c ∙ ap (λ l. sets l p vs) a ∙ ap (λ n. sets (sets m at us) n vs) b ∙ sym (sets-append m at us vs)
+
 set-append-add : (xs ys : List ℕ) (i v : ℕ) → set (xs ++ ys) (length xs + i) v ≡ xs ++ set ys i v
 set-append-add [] ys i v = rw (zero-add i)
 set-append-add (x ∷ xs) ys i v = rw (suc-add (length xs) i) (ap (λ l. x ∷ l) (set-append-add xs ys i v))

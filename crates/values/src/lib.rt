@@ -1,4 +1,5 @@
 // Absolute and relocatable values and displacements, kept apart; and the big-endian words that they are written in.
+pub mod numbers;
 pub mod words;
 
 ghost use mathlib.Core.Path.{_≡_};

@@ -8,7 +8,8 @@ use Rattle.book.specs.Reading.{recordsIn}
 use Rattle.book.proofs.Turns.{long-enough}
 use Prim.Native.Nat.{_+_}
 use Rattle.print.specs.Print.{headerLine, recordLines, bookLines}
-use Rattle.print.proofs.Laws.{room, no-room, lines-are, header-length, then}
+use Rattle.print.proofs.Laws.{room, no-room, lines-are, header-length}
+use Rattle.values.proofs.Laws.{then}
 use Rattle.print.proofs.print_lines.Statement.{statement}
 use Rattle.print.proofs.print_lines.Tie as tie
 

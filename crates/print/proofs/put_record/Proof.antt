@@ -8,7 +8,8 @@ use Rattle.book.specs.Reading.{recordOf}
 use Rattle.book.proofs.Places.{fields-length, text-length}
 use mathlib.Core.List.{_++_}
 use Rattle.print.specs.Print.{offsetsLength, headColumns, offsets, column}
-use Rattle.print.proofs.Laws.{head-length, offsets-length, line-is, then}
+use Rattle.print.proofs.Laws.{head-length, offsets-length, line-is}
+use Rattle.values.proofs.Laws.{then}
 use Rattle.print.proofs.put_record.Statement.{statement}
 use Rattle.print.proofs.put_record.Tie as tie
 

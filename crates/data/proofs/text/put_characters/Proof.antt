@@ -4,7 +4,8 @@ use borrow.Author.Needs.{needs}
 use lib.ListN.{length, replicate}
 use Prim.Native.Nat.{_+_, _-_}
 use Rattle.data.specs.Text.{codesFrom, charactersText}
-use Rattle.data.proofs.Texts.{then, codes-length}
+use Rattle.values.proofs.Laws.{then}
+use Rattle.data.proofs.Texts.{codes-length}
 use Rattle.data.proofs.text.put_characters.Statement.{statement}
 use Rattle.data.proofs.text.put_characters.Tie as tie
 

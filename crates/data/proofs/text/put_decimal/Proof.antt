@@ -4,7 +4,7 @@ use borrow.Author.Needs.{needs}
 use lib.ListN.{length, replicate, length-replicate}
 use Prim.Native.Nat.{_+_, _-_}
 use Rattle.data.specs.Text.{codesFrom, decimalText}
-use Rattle.data.proofs.Texts.{then}
+use Rattle.values.proofs.Laws.{then}
 use Rattle.data.proofs.text.put_decimal.Statement.{statement}
 use Rattle.data.proofs.text.put_decimal.Tie as tie
 

@@ -6,7 +6,7 @@ use lib.ListN.{length, replicate, length-replicate}
 use Prim.Native.Nat.{_+_, _-_}
 use Rattle.data.specs.Sizes.{halfUp}
 use Rattle.data.specs.Text.{hexBytes, hexadecimalText}
-use Rattle.data.proofs.Texts.{then}
+use Rattle.values.proofs.Laws.{then}
 use Rattle.data.proofs.text.put_hexadecimal.Statement.{statement}
 use Rattle.data.proofs.text.put_hexadecimal.Tie as tie
 

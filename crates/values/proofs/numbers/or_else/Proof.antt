@@ -1,8 +1,8 @@
 -- `or_else` meets its contract, by its test.
 use borrow.Author.Tests.{eq-eqb, ne-eqb}
 use Rattle.values.specs.Tests.{orElse}
-use Rattle.statements.proofs.numbers.or_else.Statement.{statement}
-use Rattle.statements.proofs.numbers.or_else.Tie as tie
+use Rattle.values.proofs.numbers.or_else.Statement.{statement}
+use Rattle.values.proofs.numbers.or_else.Tie as tie
 
 returns : tie.Need-returns
 unfolding orElse

@@ -1,8 +1,8 @@
 -- `lower_of` meets its contract, by the tests that led to each answer.
 use borrow.Author.Tests.{eq-eqb, ne-eqb, lt-ltb, le-ltb}
 use Rattle.values.specs.Tests.{lower}
-use Rattle.statements.proofs.numbers.lower_of.Statement.{statement}
-use Rattle.statements.proofs.numbers.lower_of.Tie as tie
+use Rattle.values.proofs.numbers.lower_of.Statement.{statement}
+use Rattle.values.proofs.numbers.lower_of.Tie as tie
 
 returns : tie.Need-returns
 unfolding lower

@@ -1,0 +1,1 @@
+// A statement's bytes and the offsets of its relocatable fields.

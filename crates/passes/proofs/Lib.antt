@@ -1,0 +1,3 @@
+-- The laws of the passes.
+pub mod Turns
+pub mod Fine

@@ -1,0 +1,5 @@
+pub mod Cards
+pub mod One
+pub mod Sound
+pub mod Two
+pub mod Assembly

@@ -1,0 +1,204 @@
+-- Pass one: "Pass one checks 9 to 17 and 24 on every card, 18 to 20 on EQU and ORG, 20 for names (not where m is out of range), and 21 for DC and DS."
+use Prim.Native.Nat.{ℕ, _+_}
+use mathlib.Core.List.{List, [], _∷_}
+use mathlib.Core.Bool.{Bool, true}
+use lib.Dec.{leb, eqb}
+use Rattle.values.specs.Tests.{pick, orElse}
+use Rattle.names.specs.declared.Name.{Name}
+use Rattle.names.specs.declared.Entry.{Entry}
+use Rattle.names.specs.Names.{find, defined, nameRefusal}
+use Rattle.names.specs.Table.{amountOf}
+use Rattle.cards.specs.Fields.{byteNo}
+use Rattle.operations.specs.declared.Operation.{Operation}
+use Rattle.operations.specs.Codes.{operationNo, nameNo}
+use Rattle.data.specs.Sizes.{lengthFits, constantNo, reserveNo}
+use Rattle.forms.specs.declared.Shape.{Shape}
+use Rattle.forms.specs.declared.Shape.the-variants.{Fails, Nothing, StartAt, Expression, Pair, Target, Two, One, Only, Constant, Reserve}
+use Rattle.forms.specs.Size.{sizeOf}
+use Rattle.values.specs.declared.Value.{Value}
+use Rattle.statements.specs.declared.operands.Operands.{Operands}
+use Rattle.statements.specs.Kinds.{expressionsNo}
+use Rattle.lines.specs.declared.Line.{Line}
+use Rattle.lines.specs.declared.Reading.{Reading}
+use Rattle.lines.specs.declared.Reading.the-variants.{Comment, BadName, Statement}
+use Rattle.lines.specs.Lines.{readingOf, shapeNo}
+use Rattle.passes.specs.declared.Role.{Role}
+use Rattle.passes.specs.declared.Role.the-variants.{Starts, Equates, SetsCounter, Ends, Makes}
+use Rattle.passes.specs.declared.Phase.{Phase}
+use Rattle.passes.specs.declared.Phase.the-variants.{Before, Within, Ended}
+use Rattle.passes.specs.Cards.{roleOf, operandsAt, counterAfter, nameValue, nameLength}
+
+-- between two cards: the counter, the names defined, and where START and END are
+pub record State : Type 0 where
+  pub counter : ℕ
+  pub names : List Name
+  pub phase : Phase
+
+-- before the first card
+abbrev pub fresh : State
+fresh = record { counter = 0; names = []; phase = Before }
+
+-- REFUSALS
+
+-- 9: "a card after END"
+abbrev pub afterEndNo : Phase → ℕ
+afterEndNo Before = 0
+afterEndNo Within = 0
+afterEndNo Ended = 9
+
+-- 13: "START missing first, or again"
+abbrev pub againNo : Role → ℕ
+againNo Starts = 13
+againNo Equates = 0
+againNo SetsCounter = 0
+againNo Ends = 0
+againNo Makes = 0
+
+abbrev pub missingNo : Role → ℕ
+missingNo Starts = 0
+missingNo Equates = 13
+missingNo SetsCounter = 13
+missingNo Ends = 13
+missingNo Makes = 13
+
+abbrev pub startNo : Phase → Role → ℕ
+startNo Before r = missingNo r
+startNo Within r = againNo r
+startNo Ended r = againNo r
+
+-- "At most 512 names"
+abbrev pub mostNames : ℕ
+mostNames = 512
+
+-- a rule for names, of a card that has one: the number 0 is no name
+abbrev pub ifNamed : ℕ → ℕ → ℕ
+ifNamed name n = pick (eqb name 0) 0 n
+
+-- "18 to 20 on EQU and ORG", over the names of earlier cards
+abbrev pub earlyBy : Role → Operation → Operands → ℕ
+earlyBy Starts op x = 0
+earlyBy Equates op x = expressionsNo op x
+earlyBy SetsCounter op x = expressionsNo op x
+earlyBy Ends op x = 0
+earlyBy Makes op x = 0
+
+unfoldable pub earlyNo : (ℕ → Entry) → ℕ → List ℕ → Line → ℕ
+earlyNo look counter s l = earlyBy (roleOf (l .operation)) (l .operation) (operandsAt look counter s l)
+
+-- m is in its range, or the card has none
+abbrev pub mFits : Shape → Bool
+mFits (Fails q) = true
+mFits Nothing = true
+mFits (StartAt v) = true
+mFits Expression = true
+mFits (Pair p) = true
+mFits Target = true
+mFits (Two a b) = true
+mFits (One a p) = true
+mFits (Only a) = true
+mFits (Constant d) = lengthFits d
+mFits (Reserve d) = lengthFits d
+
+-- 20: "a name's value over 65535 included", "not where m is out of range"
+abbrev pub over : Value → ℕ
+over v = pick (leb (amountOf v) 65535) 0 20
+
+unfoldable pub overNo : (ℕ → Entry) → ℕ → List ℕ → Line → ℕ
+overNo look counter s l = pick (mFits (l .shape)) (over (nameValue look counter s l)) 0
+
+-- 21 of DC and DS
+abbrev pub dataNo : Shape → ℕ
+dataNo (Fails q) = 0
+dataNo Nothing = 0
+dataNo (StartAt v) = 0
+dataNo Expression = 0
+dataNo (Pair p) = 0
+dataNo Target = 0
+dataNo (Two a b) = 0
+dataNo (One a p) = 0
+dataNo (Only a) = 0
+dataNo (Constant d) = constantNo d
+dataNo (Reserve d) = reserveNo d
+
+-- 24: "counter past 65536"
+abbrev pub roomNo : ℕ → ℕ → ℕ
+roomNo counter size = pick (leb (counter + size) 65536) 0 24
+
+-- "the lowest number that holds" of 16 to 24
+unfoldable pub valueNo : State → List ℕ → Line → ℕ
+valueNo st s l =
+    orElse (ifNamed (l .name) (nameRefusal mostNames (st .names) (l .name)))
+    (orElse (earlyNo (find (st .names)) (st .counter) s l)
+    (orElse (ifNamed (l .name) (overNo (find (st .names)) (st .counter) s l))
+    (orElse (dataNo (l .shape)) (roomNo (st .counter) (sizeOf (l .operation) (l .shape))))))
+
+-- 12 to 15 before them
+unfoldable pub lineNo : State → List ℕ → Line → ℕ
+lineNo st s l =
+    orElse (operationNo (l .operation))
+    (orElse (startNo (st .phase) (roleOf (l .operation)))
+    (orElse (nameNo (l .operation) (l .name)) (orElse (shapeNo (l .shape)) (valueNo st s l))))
+
+-- 11: "bad name"
+abbrev pub readingNo : State → List ℕ → Reading → ℕ
+readingNo st s Comment = 0
+readingNo st s BadName = 11
+readingNo st s (Statement l) = lineNo st s l
+
+-- "9 goes before all else on its card"; then 10 over all its statement columns
+unfoldable pub oneNo : State → List ℕ → ℕ
+oneNo st s = orElse (afterEndNo (st .phase)) (orElse (byteNo s) (readingNo st s (readingOf s)))
+
+-- WHAT A CARD DOES
+
+-- a name more, where the line has one
+unfoldable pub entered : State → List ℕ → Line → List Name
+entered st s l =
+    pick (eqb (l .name) 0) (st .names)
+    (defined
+    (record {
+      number = l .name;
+      value = nameValue (find (st .names)) (st .counter) s l;
+      length = nameLength (l .operation) (l .shape);
+    })
+    (st .names))
+
+abbrev pub phaseAfter : Role → Phase → Phase
+phaseAfter Starts p = Within
+phaseAfter Equates p = p
+phaseAfter SetsCounter p = p
+phaseAfter Ends p = Ended
+phaseAfter Makes p = p
+
+abbrev pub lineStep : State → List ℕ → Line → State
+lineStep st s l = record {
+  counter = counterAfter (find (st .names)) (st .counter) s l;
+  names = entered st s l;
+  phase = phaseAfter (roleOf (l .operation)) (st .phase);
+}
+
+abbrev pub readingStep : State → List ℕ → Reading → State
+readingStep st s Comment = st
+readingStep st s BadName = st
+readingStep st s (Statement l) = lineStep st s l
+
+unfoldable pub stepOne : State → List ℕ → State
+stepOne st s = readingStep st s (readingOf s)
+
+-- THE PASS
+
+-- through all cards, or stopped by a number of refusal at a card
+pub data Passed : Type 0 where
+  through : State → Passed
+  stopped : ℕ → ℕ → Passed
+
+-- 9: "no END (card 0)"
+abbrev pub endedAs : Phase → State → Passed
+endedAs Before st = stopped 9 0
+endedAs Within st = stopped 9 0
+endedAs Ended st = through st
+
+-- the cards from number k on
+unfoldable pub passOne : ℕ → State → List (List ℕ) → Passed
+passOne k st [] = endedAs (st .phase) st
+passOne k st (s ∷ ss) = pick (eqb (oneNo st s) 0) (passOne (k + 1) (stepOne st s) ss) (stopped (oneNo st s) k)

@@ -1,0 +1,85 @@
+// What both passes make of a card: its part in the counter and the names, and the answer of an assembly.
+use forms::Shape;
+use operations::Operation;
+use statements::places::Bases;
+ghost use mathlib.Core.Path.{_≡_};
+ghost use Rattle.passes.specs.Cards.{roleOf, startValue};
+
+// What a card does to the counter and the names, beside making bytes.
+pub enum Role {
+    Starts,
+    Equates,
+    SetsCounter,
+    Ends,
+    Makes,
+}
+
+// Where pass one stands: before START, between START and END, behind END.
+pub enum Phase {
+    Before,
+    Within,
+    Ended,
+}
+
+// Where pass two stands: the counter, and the bases in force.
+pub struct Course {
+    pub counter: u32,
+    pub bases: Bases,
+}
+
+// What pass two finds: no card is refused, or a number of refusal at a card.
+pub enum Checked {
+    Clean,
+    Bad(u8, u16),
+}
+
+// An assembly's answer: the book's length and the count of names, or a number of refusal with its card.
+pub enum Assembled {
+    Made(u32, u16),
+    Refused(u8, u16),
+}
+
+pub fn role_of(op: Operation) -> Role
+    ensures { λ r. ⌜ r ≡ roleOf op ⌝ }
+{
+    match op {
+        Operation::Unknown => Role::Makes,
+        Operation::Start => Role::Starts,
+        Operation::Equ => Role::Equates,
+        Operation::Org => Role::SetsCounter,
+        Operation::Dc => Role::Makes,
+        Operation::Ds => Role::Makes,
+        Operation::Using => Role::Makes,
+        Operation::Drop => Role::Makes,
+        Operation::End => Role::Ends,
+        Operation::Decimal(_) => Role::Makes,
+        Operation::Characters(_) => Role::Makes,
+        Operation::Move => Role::Makes,
+        Operation::MoveOf(_) => Role::Makes,
+        Operation::OneAddress(_) => Role::Makes,
+        Operation::Branch(_) => Role::Makes,
+        Operation::LoadAddress => Role::Makes,
+        Operation::BranchOn(_) => Role::Makes,
+        Operation::Jump => Role::Makes,
+        Operation::JumpOn(_) => Role::Makes,
+    }
+}
+
+// START's value.
+pub fn start_value(x: Shape) -> u16
+    ensures { λ r. ⌜ r ≡ startValue x ⌝ }
+{
+    match x {
+        Shape::Fails(_) => 0,
+        Shape::Nothing => 0,
+        Shape::StartAt(v) => v,
+        Shape::Expression => 0,
+        Shape::Pair(_) => 0,
+        Shape::Target => 0,
+        Shape::Two(_, _) => 0,
+        Shape::One(_, _) => 0,
+        Shape::Only(_) => 0,
+        Shape::Constant(_) => 0,
+        Shape::Reserve(_) => 0,
+    }
+}
