@@ -4,3 +4,4 @@ pub mod Raising
 mod RaisedOperands
 mod RaisedStatements
 mod Shapes
+mod RaisedCards
