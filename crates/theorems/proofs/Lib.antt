@@ -5,3 +5,4 @@ mod RaisedOperands
 mod RaisedStatements
 mod Shapes
 mod RaisedCards
+mod RaisedText
