@@ -6,3 +6,4 @@ mod RaisedStatements
 mod Shapes
 mod RaisedCards
 mod RaisedText
+mod LowPieces
