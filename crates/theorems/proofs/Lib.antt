@@ -7,3 +7,4 @@ mod Shapes
 mod RaisedCards
 mod RaisedText
 mod LowPieces
+mod RaisedOne
