@@ -8,3 +8,4 @@ mod RaisedCards
 mod RaisedText
 mod LowPieces
 mod RaisedOne
+mod RaisedLoad
