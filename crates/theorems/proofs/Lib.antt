@@ -9,3 +9,4 @@ mod RaisedText
 mod LowPieces
 mod RaisedOne
 mod RaisedLoad
+mod RaisedTwo
