@@ -1,3 +1,6 @@
 -- The theorems.
 mod Raised
 pub mod Raising
+mod Lines
+mod Kept
+pub mod Grow
