@@ -138,7 +138,7 @@ module _ (st : State) (more : ℕ → Entry) (keeps : Keeps (find (st .names)) m
 -- A CARD
 
 module _ (st : State) (more : ℕ → Entry) (keeps : Keeps (find (st .names)) more) (s : List ℕ) (e : oneNo st s ≡ 0) (c : Course) (same : c .counter ≡ st .counter) where
-  card-counter : stepTwo more c s .counter ≡ stepOne st s .counter
+  pub card-counter : stepTwo more c s .counter ≡ stepOne st s .counter
   unfolding stepTwo stepOne
   card-counter = go (readingOf s) (one-zero st s e .2)
     where
@@ -156,7 +156,7 @@ module _ (st : State) (more : ℕ → Entry) (keeps : Keeps (find (st .names)) m
       go BadName q h = absurd (omega arith)
       go (Statement l) q h = rw same (line-number st more keeps s l (fine st s l h) q (c .bases))
 
-  card-room : st .counter ≤ 65536 → c .counter + cardSize s ≤ 65536
+  pub card-room : st .counter ≤ 65536 → c .counter + cardSize s ≤ 65536
   unfolding cardSize
   card-room low = go (readingOf s) (one-zero st s e .2)
     where
@@ -201,7 +201,7 @@ lone-low look here o (Constant d) = go (d .kind)
     go Address = omega arith
 lone-low look here o (Reserve d) = omega arith
 
-step-low : (st : State) (s : List ℕ) → oneNo st s ≡ 0 → st .counter ≤ 65536 → stepOne st s .counter ≤ 65536
+pub step-low : (st : State) (s : List ℕ) → oneNo st s ≡ 0 → st .counter ≤ 65536 → stepOne st s .counter ≤ 65536
 unfolding stepOne counterAfter
 step-low st s e low = go (readingOf s) refl (one-zero st s e .2)
   where

@@ -4,3 +4,7 @@ pub mod Raising
 mod Lines
 mod Kept
 pub mod Grow
+mod Texts
+mod Made
+mod Called
+pub mod Readable
