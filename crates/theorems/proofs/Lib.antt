@@ -1,6 +1,13 @@
 -- The theorems.
 mod Raised
 pub mod Raising
+mod Lines
+mod Kept
+pub mod Grow
+mod Texts
+mod Made
+mod Called
+pub mod Readable
 mod RaisedOperands
 mod RaisedStatements
 mod Shapes
