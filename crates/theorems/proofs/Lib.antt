@@ -10,10 +10,10 @@ mod Called
 pub mod Readable
 mod RaisedOperands
 mod RaisedStatements
-mod Shapes
 mod RaisedCards
 mod RaisedText
 mod LowPieces
 mod RaisedOne
 mod RaisedLoad
 mod RaisedTwo
+mod Started

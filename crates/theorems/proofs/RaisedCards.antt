@@ -48,7 +48,7 @@ use Rattle.passes.specs.Two.{constantPieces, shapePieces, linePieces}
 use Rattle.theorems.specs.Moved.{raisedEvaluated, raisedOperands, raisedBase, raisedBases, raisedPiece, raisedState, raisedCourse}
 use Rattle.theorems.proofs.RaisedOperands.{operands-raised}
 use Rattle.theorems.proofs.RaisedStatements.{value-in-raised, absolute-in, relocatable-in, lone-raised, pieces-raised}
-use Rattle.theorems.proofs.Shapes.{line-shape, last-is, pair-is}
+use Rattle.theorems.proofs.Lines.{line-shape, last-has, pair-has}
 
 -- refusals 18 to 20 are those of EQU and ORG again
 pub early-none : (r : Role) (op : Operation) (x : Operands) → expressionsNo op x ≡ 0 → earlyBy r op x ≡ 0
@@ -86,7 +86,7 @@ module _ (d : ℕ) (s : List ℕ) (l : Line) (reads : readingOf s ≡ Statement 
       → amountOf (loneValue (raisedOperands d (operandsAt look here s l))) ≡ amountOf (loneValue (operandsAt look here s l)) + d
   unfolding operandsOf expressionsNo
   org-raised e look here h =
-      subst P (sym shape) (last-is P (λ q f g. absurd (omega arith)) (operandIn s l) 0 Shape.Expression (λ f g. relocatable-in d (evaluated look here (expressionAt (operandIn s l) 0)) g)) formed (rw e at h)
+      subst P (sym shape) (last-has P (λ q f g. absurd (omega arith)) (operandIn s l) 0 Shape.Expression (λ f g. relocatable-in d (evaluated look here (expressionAt (operandIn s l) 0)) g)) formed (rw e at h)
     where
       P : Shape → Type 0
       P x = shapeNo x ≡ 0 → expressionsNo Org (operandsOf look here (operandIn s l) x) ≡ 0
@@ -196,9 +196,9 @@ module _ (d : ℕ) (s : List ℕ) (l : Line) (reads : readingOf s ≡ Statement 
       by-use Org e h = refl
       by-use Dc e h = refl
       by-use Ds e h = refl
-      by-use Using e h = subst (Registered Using) (sym e) (pair-is (Registered Using) (none-registered Using) (operandIn s l) pair-registered) h
+      by-use Using e h = subst (Registered Using) (sym e) (pair-has (Registered Using) (none-registered Using) (operandIn s l) pair-registered) h
       by-use Drop e h =
-          subst (Registered Drop) (sym e) (last-is (Registered Drop) (none-registered Drop) (operandIn s l) 0 Shape.Expression lone-registered) h
+          subst (Registered Drop) (sym e) (last-has (Registered Drop) (none-registered Drop) (operandIn s l) 0 Shape.Expression lone-registered) h
       by-use End e h = refl
       by-use (Decimal low) e h = refl
       by-use (Characters low) e h = refl

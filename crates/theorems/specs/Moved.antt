@@ -1,6 +1,7 @@
 -- What it is for an assembly to be raised by d: everything relocatable is d higher, all else stays.
 use Prim.Native.Nat.{ℕ, _+_}
-use mathlib.Core.List.{List, map}
+use mathlib.Core.List.{List, _∷_, _++_, map}
+use mathlib.Core.Path.{_≡_}
 use Rattle.names.specs.Raised.{raisedValue, raisedName}
 use Rattle.expressions.specs.declared.Evaluated.{Evaluated}
 use Rattle.expressions.specs.declared.Evaluated.the-variants.{Good, Malformed, Undefined, WrongKind, OutOfRange}
@@ -17,7 +18,12 @@ use Rattle.book.specs.declared.Entry.{Entry}
 use Rattle.book.specs.declared.Entry.the-variants.{Absent, At}
 use Rattle.book.specs.Book.{Record, Book}
 use Rattle.fields.specs.Fields.{movedText}
+use Rattle.operations.specs.declared.Operation.the-variants.{Start}
+use Rattle.lines.specs.declared.Line.{Line}
+use Rattle.lines.specs.declared.Reading.the-variants.{Statement}
+use Rattle.lines.specs.Lines.{readingOf}
 use Rattle.passes.specs.declared.Course.{Course}
+use Rattle.passes.specs.Cards.{startValue}
 use Rattle.passes.specs.One.{State}
 
 module _ (d : ℕ) where
@@ -95,3 +101,26 @@ module _ (d : ℕ) where
 
   abbrev pub movedBook : Book → Book
   movedBook b = record { entry = raisedEntry (b .entry); records = map movedRecord (b .records) }
+
+-- THE PREMISE of demand 3
+
+-- a card that reads as START: its name, a number (0 where it has none), and its value (0 where its operand is absent)
+pub record Starting (s : List ℕ) (called at : ℕ) : Type 0 where
+  pub line : Line
+  pub reads : readingOf s ≡ Statement line
+  pub operation : line .operation ≡ Start
+  pub name : line .name ≡ called
+  pub value : startValue (line .shape) ≡ at
+
+-- two decks of cards, each card its statement columns, that agree on every card but START's; there the names agree, and the values are s and s + d
+pub record SameButStart (d : ℕ) (ss ts : List (List ℕ)) : Type 0 where
+  pub before : List (List ℕ)
+  pub after : List (List ℕ)
+  pub first : List ℕ
+  pub second : List ℕ
+  pub name : ℕ
+  pub start : ℕ
+  pub lower : ss ≡ before ++ first ∷ after
+  pub higher : ts ≡ before ++ second ∷ after
+  pub starts : Starting first name start
+  pub startsHigher : Starting second name (start + d)
