@@ -17,3 +17,4 @@ mod RaisedOne
 mod RaisedLoad
 mod RaisedTwo
 mod Started
+pub mod Moved

@@ -160,3 +160,32 @@ module _ (s : List ℕ) (l : Line) (reads : readingOf s ≡ Statement l) (is : l
         go Comment e h p ih = (e, ih (rw (comment-one fresh x e) at p))
         go BadName e h p ih = absurd (omega arith)
         go (Statement m) e h p ih = absurd (start-again before (k + 1) (stepOne fresh x) a (begins x m e h) p)
+
+-- THE CARDS BEHIND START, to which a whole deck comes down
+
+module _ (before after : List (List ℕ)) (s : List ℕ) (l : Line) (reads : readingOf s ≡ Statement l) (is : l .operation ≡ Start) (comments : AllComments before) where
+  abbrev pub deck : List (List ℕ)
+  deck = before ++ s ∷ after
+
+  abbrev pub next : ℕ
+  next = behind 1 before + 1
+
+  pub one-behind : (a : State) → passOne 1 fresh deck ≡ through a → passOne next (begunOne (l .name) (startValue (l .shape))) after ≡ through a
+  one-behind a p = rw (start-one s l reads is) at (pass-turn (behind 1 before) fresh a s after (comments-one (s ∷ after) before comments 1 fresh a p) .1)
+
+  module _ (ns : List Name) where
+    pub two-behind : checkTwo (find ns) 1 outset deck ≡ Clean → checkTwo (find ns) next (begunTwo (startValue (l .shape))) after ≡ Clean
+    two-behind p =
+        rw (start-two s l reads is (find ns)) at (check-turn (find ns) (behind 1 before) outset s after (comments-clean (s ∷ after) (find ns) outset before comments 1 p) .1)
+
+    pub records-behind : recordsFrom (find ns) 1 outset deck ≡ recordsFrom (find ns) next (begunTwo (startValue (l .shape))) after
+    unfolding recordsFrom
+    records-behind =
+        comments-records (s ∷ after) (find ns) outset before comments 1 ∙ rw (start-pieces s l reads is (find ns), start-two s l reads is (find ns))
+
+    pub entry-behind : entryFrom (find ns) outset deck ≡ entryFrom (find ns) (begunTwo (startValue (l .shape))) after
+    unfolding entryFrom
+    entry-behind =
+        comments-entry (s ∷ after) (find ns) outset before comments
+        ∙ start-entry s l reads is (find ns) (entryFrom (find ns) (stepTwo (find ns) outset s) after)
+        ∙ ap (λ c. entryFrom (find ns) c after) (start-two s l reads is (find ns))
