@@ -7,4 +7,6 @@ pub mod Grow
 mod Texts
 mod Made
 mod Called
+mod Loads
 pub mod Readable
+pub mod Sums

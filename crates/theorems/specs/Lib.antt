@@ -1,3 +1,4 @@
 pub mod Raising
 pub mod Grow
 pub mod Readable
+pub mod Sums
