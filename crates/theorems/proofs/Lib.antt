@@ -6,7 +6,9 @@ mod Kept
 pub mod Grow
 mod Texts
 mod Made
+mod Stores
 mod Called
 mod Loads
 pub mod Readable
 pub mod Sums
+pub mod Fields

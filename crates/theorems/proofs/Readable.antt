@@ -31,7 +31,6 @@ use Rattle.forms.proofs.Laws.{address-size}
 use Rattle.statements.specs.Places.{useOf}
 use Rattle.statements.specs.Statements.{loneValue}
 use Rattle.encode.specs.Pieces.{Piece, textOf}
-use Rattle.encode.specs.Pieces.Piece.{plain, value}
 use Rattle.load.specs.declared.Loaded.the-variants.{Broken}
 use Rattle.load.specs.Load.{judged, ofBook, loading}
 use Rattle.lines.specs.declared.Reading.{Reading}
@@ -54,7 +53,7 @@ use Rattle.theorems.specs.Readable.{textSize, readingMakes, makes}
 use Rattle.theorems.proofs.Lines.{jumps, Told, line-told}
 use Rattle.theorems.proofs.Kept.{names-grow}
 use Rattle.theorems.proofs.Grow.{card-counter, card-room, step-low, lone-low}
-use Rattle.theorems.proofs.Texts.{card-makes, fields-fit}
+use Rattle.theorems.proofs.Texts.{some-text, card-makes, fields-fit}
 use Rattle.theorems.proofs.Made.{both-passed}
 use Rattle.theorems.proofs.Loads.{Load, load}
 use Rattle.theorems.proofs.Loads.Load.{isBroken, isOutside, isOver, isEntryOver, isStored}
@@ -92,12 +91,6 @@ makes-most st s e = go (readingOf s) refl (one-zero st s e .2)
     go Comment q h = (omega arith, omega arith)
     go BadName q h = (omega arith, omega arith)
     go (Statement l) q h = text-most (l .operation) (l .shape) (line-told s l q) (fine st s l h .sizes)
-
--- a piece has at least one byte
-some-text : (p : Piece) (ps : List Piece) → 1 ≤ length (textOf (p ∷ ps))
-unfolding textOf
-some-text (plain b) ps = omega arith
-some-text (value v) ps = omega arith
 
 -- THE RECORDS
 

@@ -65,6 +65,12 @@ text-append (value v ∷ xs) ys = ap (λ t. amountOf v / 256 % 256 ∷ amountOf 
 joined-length : (xs ys : List Piece) → length (textOf (xs ++ ys)) ≡ length (textOf xs) + length (textOf ys)
 joined-length xs ys = ap length (text-append xs ys) ∙ length-append (textOf xs) (textOf ys)
 
+-- a piece has at least one byte
+pub some-text : (p : Piece) (ps : List Piece) → 1 ≤ length (textOf (p ∷ ps))
+unfolding textOf
+some-text (plain b) ps = omega arith
+some-text (value v) ps = omega arith
+
 -- bytes told by the columns are their own text
 pub plain-text : (t : List ℕ) → textOf (map plain t) ≡ t
 unfolding textOf

@@ -2,3 +2,4 @@ pub mod Raising
 pub mod Grow
 pub mod Readable
 pub mod Sums
+pub mod Fields
