@@ -6,8 +6,12 @@ mod Kept
 pub mod Grow
 mod Texts
 mod Made
+mod Stores
 mod Called
+mod Loads
 pub mod Readable
+pub mod Sums
+pub mod Fields
 mod RaisedOperands
 mod RaisedStatements
 mod RaisedCards

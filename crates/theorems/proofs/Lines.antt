@@ -174,7 +174,7 @@ Told op (Only a) = Unit {0}
 Told op (Constant d) = Unit {0}
 Told op (Reserve d) = Unit {0}
 
-pub shape-told : (op : Operation) (o : List ℕ) → Told op (shapeOf op o)
+shape-told : (op : Operation) (o : List ℕ) → Told op (shapeOf op o)
 shape-told Unknown o = tt
 shape-told Start o = start-has (Told Start) (λ q. tt) o tt (λ v. tt)
 shape-told Equ o = last-has (Told Equ) (λ q. tt) o 0 Expression refl
@@ -194,3 +194,6 @@ shape-told LoadAddress o = one-has (Told LoadAddress) (λ q. tt) o (λ a p. tt)
 shape-told (BranchOn q) o = only-has (Told (BranchOn q)) (λ q. tt) o (λ a. tt)
 shape-told Jump o = pair-has (Told Jump) (λ q. tt) o (λ p. refl)
 shape-told (JumpOn q) o = last-has (Told (JumpOn q)) (λ q. tt) o 0 Target refl
+
+pub line-told : (s : List ℕ) (l : Line) → readingOf s ≡ Statement l → Told (l .operation) (l .shape)
+line-told s l q = rw (line-shape s l q) (shape-told (l .operation) (operandIn s l))

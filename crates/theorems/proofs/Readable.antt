@@ -8,20 +8,15 @@ use mathlib.Core.Path.{_≡_, refl, sym, ap, _∙_}
 use native.Mathlib.Omega.{arith}
 use lib.ListN.{length, take, drop}
 use lib.Seq.{sets, sets-eq, take-append-seam}
-use lib.Dec.{eqb}
 use borrow.Author.Tests.{le-leb}
 use Rattle.values.specs.Tests.{pick}
-use Rattle.values.specs.Values.{movedBy}
 use Rattle.values.specs.declared.Value.{Value}
 use Rattle.values.specs.declared.Value.the-variants.{Absolute, Relocatable}
 use Rattle.values.specs.declared.Displacement.{Displacement}
-use Rattle.values.specs.declared.Moved.{Moved}
-use Rattle.values.specs.declared.Moved.the-variants.{To, Over as MovedOver}
 use Rattle.names.specs.declared.Entry.{Entry}
 use Rattle.names.specs.Names.{find}
 use Rattle.names.specs.Table.{amountOf, zeroed}
 use Rattle.book.specs.declared.Entry.{Entry as BookEntry}
-use Rattle.book.specs.declared.Entry.the-variants.{Absent, At}
 use Rattle.book.specs.Book.{Record, Book, bookOf}
 use Rattle.book.specs.Writing.{bookBytes, entryFits, fairAll}
 use Rattle.book.proofs.Laws.{is-fair}
@@ -36,10 +31,8 @@ use Rattle.forms.proofs.Laws.{address-size}
 use Rattle.statements.specs.Places.{useOf}
 use Rattle.statements.specs.Statements.{loneValue}
 use Rattle.encode.specs.Pieces.{Piece, textOf}
-use Rattle.encode.specs.Pieces.Piece.{plain, value}
-use Rattle.load.specs.declared.Loaded.the-variants.{Broken, Outside, Over}
-use Rattle.load.specs.Load.{Outcome, firstCard, outside, roomIn, entered, enteredAt, refused, judged, ofBook, loading}
-use Rattle.fields.specs.Fields.{overField}
+use Rattle.load.specs.declared.Loaded.the-variants.{Broken}
+use Rattle.load.specs.Load.{judged, ofBook, loading}
 use Rattle.lines.specs.declared.Reading.{Reading}
 use Rattle.lines.specs.declared.Reading.the-variants.{Comment, BadName, Statement}
 use Rattle.lines.specs.Lines.{readingOf, operandIn}
@@ -49,19 +42,21 @@ use Rattle.passes.specs.declared.Course.{Course}
 use Rattle.passes.specs.Cards.{roleOf, operandsAt}
 use Rattle.passes.specs.One.{State, fresh, dataNo, readingNo, oneNo, stepOne, passOne}
 use Rattle.passes.specs.One.Passed.{through}
-use Rattle.passes.specs.Two.{outset, stepTwo, linePieces, readingPieces, cardPieces, recordOf, withRecord, recordsFrom, entryBy, roleEntry, readingEntry, entryFrom, bookFrom}
+use Rattle.passes.specs.Two.{outset, stepTwo, cardPieces, recordOf, withRecord, recordsFrom, entryBy, roleEntry, readingEntry, entryFrom, bookFrom}
 use Rattle.passes.specs.declared.Assembled.the-variants.{Made, Refused}
 use Rattle.passes.specs.Assembly.{assembled, workSize, assembling}
 use Rattle.passes.specs.Assembly.Result.{made}
 use Rattle.passes.proofs.Turns.{pass-turn}
 use Rattle.passes.proofs.Fine.{fine, one-zero}
 use Rattle.theorems.specs.Grow.{readingSize, cardSize}
-use Rattle.theorems.specs.Readable.{textSize}
-use Rattle.theorems.proofs.Lines.{line-shape, jumps, Told, shape-told}
+use Rattle.theorems.specs.Readable.{textSize, readingMakes, makes}
+use Rattle.theorems.proofs.Lines.{jumps, Told, line-told}
 use Rattle.theorems.proofs.Kept.{names-grow}
 use Rattle.theorems.proofs.Grow.{card-counter, card-room, step-low, lone-low}
-use Rattle.theorems.proofs.Texts.{text-size, fields-fit}
+use Rattle.theorems.proofs.Texts.{some-text, card-makes, fields-fit}
 use Rattle.theorems.proofs.Made.{both-passed}
+use Rattle.theorems.proofs.Loads.{Load, load}
+use Rattle.theorems.proofs.Loads.Load.{isBroken, isOutside, isOver, isEntryOver, isStored}
 use Rattle.theorems.proofs.Called.{Way, way}
 use Rattle.theorems.proofs.Called.Way.{atOnce, byCards, tooLong, whole}
 
@@ -88,28 +83,14 @@ text-most op (Only a) t e = let x = address-size (a .register) in (omega arith, 
 text-most op (Constant d) t e = (omega arith, constant-fine d e .size)
 text-most op (Reserve d) t e = (omega arith, omega arith)
 
--- the text of a card that pass one lets through
-card-text : (st : State) (s : List ℕ) → oneNo st s ≡ 0 → (look : ℕ → Entry) (c : Course)
-    → (length (textOf (cardPieces look c s)) ≤ cardSize s) × (length (textOf (cardPieces look c s)) ≤ 256)
-unfolding cardPieces linePieces cardSize textOf
-card-text st s e look c = go (readingOf s) refl (one-zero st s e .2)
+makes-most : (st : State) (s : List ℕ) → oneNo st s ≡ 0 → (makes s ≤ cardSize s) × (makes s ≤ 256)
+unfolding makes cardSize
+makes-most st s e = go (readingOf s) refl (one-zero st s e .2)
   where
-    go : (x : Reading) → readingOf s ≡ x → readingNo st s x ≡ 0
-        → (length (textOf (readingPieces look c s x)) ≤ readingSize x) × (length (textOf (readingPieces look c s x)) ≤ 256)
+    go : (x : Reading) → readingOf s ≡ x → readingNo st s x ≡ 0 → (readingMakes x ≤ readingSize x) × (readingMakes x ≤ 256)
     go Comment q h = (omega arith, omega arith)
     go BadName q h = (omega arith, omega arith)
-    go (Statement l) q h =
-        let told : Told (l .operation) (l .shape) = rw (line-shape s l q) (shape-told (l .operation) (operandIn s l)) in
-        let sizes = fine st s l h .sizes in
-        let is = text-size look (c .counter) (c .bases) (operandIn s l) (l .operation) (l .shape) told sizes in
-        let most = text-most (l .operation) (l .shape) told sizes in
-        (omega arith, omega arith)
-
--- a piece has at least one byte
-some-text : (p : Piece) (ps : List Piece) → 1 ≤ length (textOf (p ∷ ps))
-unfolding textOf
-some-text (plain b) ps = omega arith
-some-text (value v) ps = omega arith
+    go (Statement l) q h = text-most (l .operation) (l .shape) (line-told s l q) (fine st s l h .sizes)
 
 -- THE RECORDS
 
@@ -137,7 +118,8 @@ module _ (a : State) where
           let ok = pass-turn k st a s ss h .0 in
           let room = card-room st (find (a .names)) (names-grow (s ∷ ss) k st a h) s ok c e low in
           let size : length (textOf (cardPieces (find (a .names)) c s)) ≡ length (textOf (p ∷ ps)) = ap (λ x. length (textOf x)) q in
-          let text = card-text st s ok (find (a .names)) c in
+          let text = card-makes st s ok (find (a .names)) c in
+          let most = makes-most st s ok in
           rw (is-fair last (recordOf k (c .counter) (p ∷ ps)) (record {
             rise = i;
             card = omega arith;
@@ -171,24 +153,16 @@ entry-fits look (s ∷ ss) c = go (readingOf s) (entryFrom look (stepTwo look c 
     go (Statement l) rest h =
         by (roleOf (l .operation)) (loneValue (operandsAt look (c .counter) s l)) rest (lone-low look (c .counter) (operandIn s l) (l .shape)) h
 
--- LOADING a book that could be read is refused by 51 and 52 alone
-judged-whole : (e : BookEntry) (d : Displacement) (rs : List Record) (m : List ℕ) → judged e d rs m .answer ≡ Broken → ⊥
-unfolding judged
-judged-whole e d rs m h = go (eqb (firstCard (outside (d .0) (roomIn m)) rs) 0) (eqb (firstCard (overField (d .0)) rs) 0) h
+-- LOADING a book that could be read is never refused by 50
+read-whole : (s : List ℕ) (b : Book) → bookOf s ≡ some b → (d : Displacement) (m : List ℕ) → loading s d m .answer ≡ Broken → ⊥
+read-whole s b is d m h = go (load s d m)
   where
-    moved : (x : Moved) → enteredAt x (d .0) rs m .answer ≡ Broken → ⊥
-    moved (To e) h = let z : _≡_ {A = ℕ} 0 1 = cc in omega arith
-    moved MovedOver h = let z : _≡_ {A = ℕ} 0 1 = cc in omega arith
-
-    in-at : (e : BookEntry) → entered e d rs m .answer ≡ Broken → ⊥
-    in-at Absent h = let z : _≡_ {A = ℕ} 0 1 = cc in omega arith
-    in-at (At v) h = moved (movedBy d v) h
-
-    go : (x y : Bool)
-        → pick x (pick y (entered e d rs m) (refused (Over (firstCard (overField (d .0)) rs)) m)) (refused (Outside (firstCard (outside (d .0) (roomIn m)) rs)) m) .answer ≡ Broken → ⊥
-    go true true h = in-at e h
-    go true false h = let z : _≡_ {A = ℕ} 0 1 = cc in omega arith
-    go false y h = let z : _≡_ {A = ℕ} 0 1 = cc in omega arith
+    go : Load s d m → ⊥
+    go (isBroken f e) = let z : _≡_ {A = ℕ} 0 1 = cc in omega arith
+    go (isOutside b f e) = let z : _≡_ {A = ℕ} 0 1 = cc in omega arith
+    go (isOver b f e) = let z : _≡_ {A = ℕ} 0 1 = cc in omega arith
+    go (isEntryOver b f e) = let z : _≡_ {A = ℕ} 0 1 = cc in omega arith
+    go (isStored b f i u to l e) = let z : _≡_ {A = ℕ} 0 1 = cc in omega arith
 
 -- THE THEOREM, of an accepted source: at most 4,000 cards, a count of names and a book
 
@@ -218,7 +192,7 @@ module _ (ss : List (List ℕ)) (few : length ss ≤ 4000) (n : ℕ) (b : Book) 
 
   -- never 50
   pub never-broken : (d : Displacement) (m : List ℕ) → loading (bookBytes b) d m .answer ≡ Broken → ⊥
-  never-broken d m e = judged-whole (b .entry) d (b .records) m (sym (ap (λ (x : Outcome). x .answer) (loaded-as-made d m)) ∙ e)
+  never-broken d m = read-whole (bookBytes b) b readable d m
 
 -- a run stored in front is what stands in front
 take-stored : (m vs : List ℕ) → length vs ≤ length m → take (length vs) (sets m 0 vs) ≡ vs
@@ -247,7 +221,6 @@ module _ (width : ℕ) (source work out : List ℕ) (bytes names : ℕ) (h : ass
 
   -- never 50
   pub call-never-broken : (d : Displacement) (m : List ℕ) → loading (take bytes (assembling width source work out .out)) d m .answer ≡ Broken → ⊥
-  unfolding loading
-  call-never-broken d m e =
+  call-never-broken d m =
       let (b, f, front, is) = call-readable in
-      judged-whole (b .entry) d (b .records) m (sym (ap (λ x. ofBook x d m .answer) is) ∙ e)
+      read-whole (take bytes (assembling width source work out .out)) b is d m

@@ -44,10 +44,15 @@ use Rattle.statements.specs.Places.{useOf, isRegister, baseOf, awayFrom, underB
 use Rattle.statements.specs.Statements.{jumpOf, statementFrom}
 use Rattle.encode.specs.Pieces.{Piece, textOf, fieldsFrom, operandPieces, addressPieces, copied, piecesOf}
 use Rattle.encode.specs.Pieces.Piece.{plain, value}
-use Rattle.passes.specs.One.{dataNo}
-use Rattle.passes.specs.Two.{constantPieces, shapePieces}
-use Rattle.theorems.specs.Readable.{textSize}
-use Rattle.theorems.proofs.Lines.{jumps, Told}
+use Rattle.lines.specs.declared.Reading.{Reading}
+use Rattle.lines.specs.declared.Reading.the-variants.{Comment, BadName, Statement}
+use Rattle.lines.specs.Lines.{readingOf, operandIn as columns}
+use Rattle.passes.specs.declared.Course.{Course}
+use Rattle.passes.specs.One.{State, dataNo, readingNo, oneNo}
+use Rattle.passes.specs.Two.{constantPieces, shapePieces, linePieces, readingPieces, cardPieces}
+use Rattle.passes.proofs.Fine.{fine, one-zero}
+use Rattle.theorems.specs.Readable.{textSize, readingMakes, makes}
+use Rattle.theorems.proofs.Lines.{jumps, Told, line-told}
 
 -- PIECES
 
@@ -59,6 +64,12 @@ text-append (value v ∷ xs) ys = ap (λ t. amountOf v / 256 % 256 ∷ amountOf 
 
 joined-length : (xs ys : List Piece) → length (textOf (xs ++ ys)) ≡ length (textOf xs) + length (textOf ys)
 joined-length xs ys = ap length (text-append xs ys) ∙ length-append (textOf xs) (textOf ys)
+
+-- a piece has at least one byte
+pub some-text : (p : Piece) (ps : List Piece) → 1 ≤ length (textOf (p ∷ ps))
+unfolding textOf
+some-text (plain b) ps = omega arith
+some-text (value v) ps = omega arith
 
 -- bytes told by the columns are their own text
 pub plain-text : (t : List ℕ) → textOf (map plain t) ≡ t
@@ -179,3 +190,14 @@ module _ (look : ℕ → Entry) (here : ℕ) (bases : Bases) (o : List ℕ) wher
   text-size op (Only a) t e = let x = operand-length a in omega arith
   text-size op (Constant d) t e = constant-length op d e
   text-size op (Reserve d) t e = refl
+
+-- the text of a card that pass one lets through has the bytes that the card makes
+pub card-makes : (st : State) (s : List ℕ) → oneNo st s ≡ 0 → (look : ℕ → Entry) (c : Course) → length (textOf (cardPieces look c s)) ≡ makes s
+unfolding cardPieces linePieces makes textOf
+card-makes st s e look c = go (readingOf s) refl (one-zero st s e .2)
+  where
+    go : (x : Reading) → readingOf s ≡ x → readingNo st s x ≡ 0 → length (textOf (readingPieces look c s x)) ≡ readingMakes x
+    go Comment q h = refl
+    go BadName q h = refl
+    go (Statement l) q h =
+        text-size look (c .counter) (c .bases) (columns s l) (l .operation) (l .shape) (line-told s l q) (fine st s l h .sizes)
