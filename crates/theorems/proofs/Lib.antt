@@ -1,3 +1,24 @@
 -- The theorems.
 mod Raised
 pub mod Raising
+mod Lines
+mod Kept
+pub mod Grow
+mod Texts
+mod Made
+mod Stores
+mod Called
+mod Loads
+pub mod Readable
+pub mod Sums
+pub mod Fields
+mod RaisedOperands
+mod RaisedStatements
+mod RaisedCards
+mod RaisedText
+mod LowPieces
+mod RaisedOne
+mod RaisedLoad
+mod RaisedTwo
+mod Started
+pub mod Moved

@@ -1,1 +1,6 @@
 pub mod Raising
+pub mod Grow
+pub mod Readable
+pub mod Sums
+pub mod Fields
+pub mod Moved

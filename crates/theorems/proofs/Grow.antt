@@ -1,0 +1,277 @@
+-- THE PASSES AGREE. "EQU and ORG use only names defined on earlier cards", and names only grow, so pass two finds there what pass one found:
+-- its second look at EQU and ORG refuses nothing, and its counter before every card is pass one's.
+use Prim.Native.Nat.{ℕ, zero, suc, _+_, _≤_, _<_}
+use mathlib.Core.List.{List, [], _∷_}
+use mathlib.Core.Path.{_≡_, refl, sym, ap, _∙_}
+use native.Mathlib.Omega.{arith}
+use lib.ListN.{length, getD}
+use Rattle.values.specs.Tests.{orElse}
+use Rattle.names.specs.declared.Entry.{Entry}
+use Rattle.names.specs.Names.{find}
+use Rattle.names.specs.Table.{amountOf}
+use Rattle.expressions.specs.declared.Wanted.{Wanted}
+use Rattle.expressions.specs.declared.Wanted.the-variants.{Any, OnlyRelocatable}
+use Rattle.expressions.specs.Form.{expressionAt}
+use Rattle.expressions.specs.Value.{evaluated, refusalFor, valueIn}
+use Rattle.expressions.proofs.Laws.{accepted, value-fits}
+use Rattle.operations.specs.declared.Operation.{Operation}
+use Rattle.operations.specs.declared.Operation.the-variants.{Unknown, Start, Equ, Org, Dc, Ds, Using, Drop, End, Decimal, Characters, Move, MoveOf, OneAddress, Branch, LoadAddress, BranchOn, Jump, JumpOn}
+use Rattle.data.specs.declared.DataType.{DataType}
+use Rattle.data.specs.declared.DataType.the-variants.{Characters as CharacterData, Hexadecimal, Decimal as DecimalData, Address}
+use Rattle.forms.specs.declared.Shape.{Shape}
+use Rattle.forms.specs.declared.Shape.the-variants.{Fails, Nothing, StartAt, Expression, Pair, Target, Two, One, Only, Constant, Reserve}
+use Rattle.forms.specs.Shape.{shapeOf}
+use Rattle.forms.proofs.Laws.{ShapeIn, shape-in}
+use Rattle.statements.specs.declared.operands.Operands.{Operands}
+use Rattle.statements.specs.declared.places.Bases.{Bases}
+use Rattle.statements.specs.Operands.{constantBy, operandsOf}
+use Rattle.statements.specs.Kinds.{expressionsNo}
+use Rattle.statements.specs.Codes.{codeOf}
+use Rattle.statements.specs.Places.{placesNo}
+use Rattle.statements.specs.Statements.{numberOf, loneValue}
+use Rattle.lines.specs.declared.Line.{Line}
+use Rattle.lines.specs.declared.Reading.{Reading}
+use Rattle.lines.specs.declared.Reading.the-variants.{Comment, BadName, Statement}
+use Rattle.lines.specs.Lines.{readingOf, operandIn, shapeNo}
+use Rattle.passes.specs.declared.Role.{Role}
+use Rattle.passes.specs.declared.Role.the-variants.{Starts, Equates, SetsCounter, Ends, Makes}
+use Rattle.passes.specs.declared.Course.{Course}
+use Rattle.passes.specs.Cards.{roleOf, startValue, operandsAt, counterBy, counterAfter}
+use Rattle.passes.specs.One.{State, fresh, earlyBy, earlyNo, readingNo, oneNo, readingStep, stepOne, passOne}
+use Rattle.passes.specs.One.Passed.{through}
+use Rattle.passes.specs.Two.{outset, readingTwoNo, twoNo, readingTwoStep, stepTwo, checkTwo}
+use Rattle.passes.proofs.Turns.{pass-turn}
+use Rattle.passes.proofs.Fine.{Fine, fine, one-zero}
+use Rattle.theorems.specs.Grow.{Keeps, behindOne, behindTwo, namesBy, counterOne, counterTwo, readingSize, cardSize, unlessSeen, readingUnseen, unseenNo, checkUnseen}
+use Rattle.theorems.proofs.Lines.{line-shape, equ-shape, org-shape}
+use Rattle.theorems.proofs.Kept.{value-kept, names-grow}
+
+-- A LINE
+
+module _ (look more : ℕ → Entry) (keeps : Keeps look more) (here : ℕ) (o : List ℕ) where
+  -- an expression that is not refused comes to the same
+  same-value : (w : Wanted) (p : ℕ) → refusalFor w (evaluated look here (expressionAt o p)) ≡ 0
+      → evaluated more here (expressionAt o p) ≡ evaluated look here (expressionAt o p)
+  same-value w p h =
+      let good = accepted w (evaluated look here (expressionAt o p)) h .0 in
+      value-kept look more keeps here (expressionAt o p) (valueIn (evaluated look here (expressionAt o p))) good ∙ sym good
+
+  same-lone : (op : Operation) (x : Shape) → expressionsNo op (operandsOf look here o x) ≡ 0
+      → loneValue (operandsOf more here o x) ≡ loneValue (operandsOf look here o x)
+  unfolding operandsOf expressionsNo
+  same-lone op (Fails q) h = refl
+  same-lone op Nothing h = refl
+  same-lone op (StartAt v) h = refl
+  same-lone op Expression h = ap valueIn (same-value _ 0 h)
+  same-lone op (Pair p) h = refl
+  same-lone op Target h = ap valueIn (same-value _ 0 h)
+  same-lone op (Two a b) h = refl
+  same-lone op (One a p) h = refl
+  same-lone op (Only a) h = refl
+  same-lone op (Constant d) h = go (d .kind)
+    where
+      go : (k : DataType)
+          → loneValue (constantBy k (Operands.Addresses (d .copies) (d .length) (evaluated more here (expressionAt o (d .value)))))
+          ≡ loneValue (constantBy k (Operands.Addresses (d .copies) (d .length) (evaluated look here (expressionAt o (d .value)))))
+      go CharacterData = refl
+      go Hexadecimal = refl
+      go DecimalData = refl
+      go Address = refl
+  same-lone op (Reserve d) h = refl
+
+  -- EQU and ORG: what pass one did not refuse, pass two does not
+  equ-again : expressionsNo Equ (operandsOf look here o Expression) ≡ 0 → (bases : Bases) → numberOf Equ (operandsOf more here o Expression) here bases ≡ 0
+  unfolding operandsOf expressionsNo numberOf orElse codeOf placesNo
+  equ-again h bases = rw (same-value Any 0 h, h)
+
+  org-again : expressionsNo Org (operandsOf look here o Expression) ≡ 0 → (bases : Bases) → numberOf Org (operandsOf more here o Expression) here bases ≡ 0
+  unfolding operandsOf expressionsNo numberOf orElse codeOf placesNo
+  org-again h bases = rw (same-value OnlyRelocatable 0 h, h)
+
+  same-number : (op : Operation) (x : Shape) → x ≡ shapeOf op o → shapeNo x ≡ 0 → earlyBy (roleOf op) op (operandsOf look here o x) ≡ 0 → (bases : Bases)
+      → numberOf op (operandsOf more here o x) here bases ≡ unlessSeen (roleOf op) (numberOf op (operandsOf more here o x) here bases)
+  same-number Unknown x e f h bases = refl
+  same-number Start x e f h bases = refl
+  same-number Equ x e f h bases =
+      let y : x ≡ Expression = e ∙ equ-shape o (ap shapeNo (sym e) ∙ f) in
+      rw y (equ-again (rw y at h) bases)
+  same-number Org x e f h bases =
+      let y : x ≡ Expression = e ∙ org-shape o (ap shapeNo (sym e) ∙ f) in
+      rw y (org-again (rw y at h) bases)
+  same-number Dc x e f h bases = refl
+  same-number Ds x e f h bases = refl
+  same-number Using x e f h bases = refl
+  same-number Drop x e f h bases = refl
+  same-number End x e f h bases = refl
+  same-number (Decimal low) x e f h bases = refl
+  same-number (Characters low) x e f h bases = refl
+  same-number Move x e f h bases = refl
+  same-number (MoveOf item) x e f h bases = refl
+  same-number (OneAddress low) x e f h bases = refl
+  same-number (Branch low) x e f h bases = refl
+  same-number LoadAddress x e f h bases = refl
+  same-number (BranchOn q) x e f h bases = refl
+  same-number Jump x e f h bases = refl
+  same-number (JumpOn q) x e f h bases = refl
+
+-- a line that pass one lets through, over all names
+module _ (st : State) (more : ℕ → Entry) (keeps : Keeps (find (st .names)) more) (s : List ℕ) (l : Line) (f : Fine st s l) where
+  line-counter : counterAfter more (st .counter) s l ≡ counterAfter (find (st .names)) (st .counter) s l
+  unfolding counterAfter earlyNo
+  line-counter = go (roleOf (l .operation)) (f .early)
+    where
+      go : (r : Role) → earlyBy r (l .operation) (operandsAt (find (st .names)) (st .counter) s l) ≡ 0
+          → counterBy r (operandsAt more (st .counter) s l) (st .counter) l ≡ counterBy r (operandsAt (find (st .names)) (st .counter) s l) (st .counter) l
+      go Starts h = refl
+      go Equates h = refl
+      go SetsCounter h = ap amountOf (same-lone (find (st .names)) more keeps (st .counter) (operandIn s l) (l .operation) (l .shape) h)
+      go Ends h = refl
+      go Makes h = refl
+
+  line-number : readingOf s ≡ Statement l → (bases : Bases)
+      → readingTwoNo more (record { counter = st .counter; bases = bases }) s (Statement l)
+      ≡ unlessSeen (roleOf (l .operation)) (readingTwoNo more (record { counter = st .counter; bases = bases }) s (Statement l))
+  unfolding earlyNo
+  line-number e bases =
+      same-number (find (st .names)) more keeps (st .counter) (operandIn s l) (l .operation) (l .shape) (line-shape s l e) (f .formed) (f .early) bases
+
+-- A CARD
+
+module _ (st : State) (more : ℕ → Entry) (keeps : Keeps (find (st .names)) more) (s : List ℕ) (e : oneNo st s ≡ 0) (c : Course) (same : c .counter ≡ st .counter) where
+  pub card-counter : stepTwo more c s .counter ≡ stepOne st s .counter
+  unfolding stepTwo stepOne
+  card-counter = go (readingOf s) (one-zero st s e .2)
+    where
+      go : (x : Reading) → readingNo st s x ≡ 0 → readingTwoStep more c s x .counter ≡ readingStep st s x .counter
+      go Comment h = same
+      go BadName h = same
+      go (Statement l) h = ap (λ (n : ℕ). counterAfter more n s l) same ∙ line-counter st more keeps s l (fine st s l h)
+
+  card-number : twoNo more c s ≡ unseenNo more c s
+  unfolding twoNo unseenNo
+  card-number = go (readingOf s) refl (one-zero st s e .2)
+    where
+      go : (x : Reading) → readingOf s ≡ x → readingNo st s x ≡ 0 → readingTwoNo more c s x ≡ readingUnseen x (readingTwoNo more c s x)
+      go Comment q h = refl
+      go BadName q h = absurd (omega arith)
+      go (Statement l) q h = rw same (line-number st more keeps s l (fine st s l h) q (c .bases))
+
+  pub card-room : st .counter ≤ 65536 → c .counter + cardSize s ≤ 65536
+  unfolding cardSize
+  card-room low = go (readingOf s) (one-zero st s e .2)
+    where
+      go : (x : Reading) → readingNo st s x ≡ 0 → c .counter + readingSize x ≤ 65536
+      go Comment h = omega arith
+      go BadName h = absurd (omega arith)
+      go (Statement l) h = let r = fine st s l h .room in omega arith
+
+-- THE COUNTER is at most 65536
+
+start-low : (o : List ℕ) (x : Shape) → ShapeIn o x → startValue x ≤ 65535
+start-low o (Fails q) h = omega arith
+start-low o Nothing h = omega arith
+start-low o (StartAt v) h = omega arith
+start-low o Expression h = omega arith
+start-low o (Pair p) h = omega arith
+start-low o Target h = omega arith
+start-low o (Two a b) h = omega arith
+start-low o (One a p) h = omega arith
+start-low o (Only a) h = omega arith
+start-low o (Constant d) h = omega arith
+start-low o (Reserve d) h = omega arith
+
+-- a card's only expression has a value of at most 65535
+pub lone-low : (look : ℕ → Entry) (here : ℕ) (o : List ℕ) (x : Shape) → amountOf (loneValue (operandsOf look here o x)) ≤ 65535
+unfolding operandsOf
+lone-low look here o (Fails q) = omega arith
+lone-low look here o Nothing = omega arith
+lone-low look here o (StartAt v) = omega arith
+lone-low look here o Expression = omega (arith, value-fits look here (expressionAt o 0))
+lone-low look here o (Pair p) = omega arith
+lone-low look here o Target = omega (arith, value-fits look here (expressionAt o 0))
+lone-low look here o (Two a b) = omega arith
+lone-low look here o (One a p) = omega arith
+lone-low look here o (Only a) = omega arith
+lone-low look here o (Constant d) = go (d .kind)
+  where
+    go : (k : DataType) → amountOf (loneValue (constantBy k (Operands.Addresses (d .copies) (d .length) (evaluated look here (expressionAt o (d .value)))))) ≤ 65535
+    go CharacterData = omega arith
+    go Hexadecimal = omega arith
+    go DecimalData = omega arith
+    go Address = omega arith
+lone-low look here o (Reserve d) = omega arith
+
+pub step-low : (st : State) (s : List ℕ) → oneNo st s ≡ 0 → st .counter ≤ 65536 → stepOne st s .counter ≤ 65536
+unfolding stepOne counterAfter
+step-low st s e low = go (readingOf s) refl (one-zero st s e .2)
+  where
+    line : (l : Line) → readingOf s ≡ Statement l → Fine st s l → counterBy (roleOf (l .operation)) (operandsAt (find (st .names)) (st .counter) s l) (st .counter) l ≤ 65536
+    line l q f = by (roleOf (l .operation))
+      where
+        by : (r : Role) → counterBy r (operandsAt (find (st .names)) (st .counter) s l) (st .counter) l ≤ 65536
+        by Starts =
+            let i : ShapeIn (operandIn s l) (l .shape) = rw (line-shape s l q) (shape-in (l .operation) (operandIn s l)) in
+            omega (arith, start-low (operandIn s l) (l .shape) i)
+        by Equates = low
+        by SetsCounter = omega (arith, lone-low (find (st .names)) (st .counter) (operandIn s l) (l .shape))
+        by Ends = low
+        by Makes = f .room
+
+    go : (x : Reading) → readingOf s ≡ x → readingNo st s x ≡ 0 → readingStep st s x .counter ≤ 65536
+    go Comment q h = low
+    go BadName q h = low
+    go (Statement l) q h = line l q (fine st s l h)
+
+-- ALL CARDS
+
+module _ (a : State) where
+  behind-same : (n : ℕ) (ss : List (List ℕ)) (k : ℕ) (st : State) (c : Course) → passOne k st ss ≡ through a → c .counter ≡ st .counter
+      → behindTwo (find (a .names)) n c ss .counter ≡ behindOne n st ss .counter
+  unfolding behindOne behindTwo
+  behind-same zero ss k st c h e = e
+  behind-same (suc n) [] k st c h e = e
+  behind-same (suc n) (s ∷ ss) k st c h e =
+      let t = pass-turn k st a s ss h in
+      behind-same n ss (k + 1) (stepOne st s) (stepTwo (find (a .names)) c s) (t .1)
+      (card-counter st (find (a .names)) (names-grow (s ∷ ss) k st a h) s (t .0) c e)
+
+  behind-room : (n : ℕ) (ss : List (List ℕ)) (k : ℕ) (st : State) (c : Course) → passOne k st ss ≡ through a → c .counter ≡ st .counter → st .counter ≤ 65536
+      → n < length ss → behindTwo (find (a .names)) n c ss .counter + cardSize (getD ss n []) ≤ 65536
+  unfolding behindTwo
+  behind-room n [] k st c h e low i = absurd (omega arith)
+  behind-room zero (s ∷ ss) k st c h e low i =
+      card-room st (find (a .names)) (names-grow (s ∷ ss) k st a h) s (pass-turn k st a s ss h .0) c e low
+  behind-room (suc n) (s ∷ ss) k st c h e low i =
+      let t = pass-turn k st a s ss h in
+      behind-room n ss (k + 1) (stepOne st s) (stepTwo (find (a .names)) c s) (t .1)
+      (card-counter st (find (a .names)) (names-grow (s ∷ ss) k st a h) s (t .0) c e) (step-low st s (t .0) low) (omega arith)
+
+  check-unseen : (ss : List (List ℕ)) (j k : ℕ) (st : State) (c : Course) → passOne k st ss ≡ through a → c .counter ≡ st .counter
+      → checkTwo (find (a .names)) j c ss ≡ checkUnseen (find (a .names)) j c ss
+  unfolding checkTwo checkUnseen
+  check-unseen [] j k st c h e = refl
+  check-unseen (s ∷ ss) j k st c h e =
+      let t = pass-turn k st a s ss h in
+      let keeps = names-grow (s ∷ ss) k st a h in
+      rw (card-number st (find (a .names)) keeps s (t .0) c e, check-unseen ss (j + 1) (k + 1) (stepOne st s) (stepTwo (find (a .names)) c s) (t .1) (card-counter st (find (a .names)) keeps s (t .0) c e))
+
+-- THE THEOREMS, of a source that pass one goes through
+
+module _ (ss : List (List ℕ)) (a : State) (h : passOne 1 fresh ss ≡ through a) where
+  -- "Pass two does the rest": its second look at EQU and ORG refuses nothing
+  pub never-again : checkTwo (find (a .names)) 1 outset ss ≡ checkUnseen (find (a .names)) 1 outset ss
+  never-again = check-unseen a ss 1 1 fresh outset h refl
+
+  over-all : (n : ℕ) → counterTwo ss n ≡ behindTwo (find (a .names)) n outset ss .counter
+  over-all n = ap (λ p. behindTwo (find (namesBy p)) n outset ss .counter) h
+
+  -- the counter of pass two before every card is the counter that pass one had there
+  pub same-counters : (n : ℕ) → counterTwo ss n ≡ counterOne ss n
+  same-counters n = over-all n ∙ behind-same a n ss 1 fresh outset h refl
+
+  -- "counter past 65536" is 24: the bytes of every card end at 65536 at most
+  pub room : (n : ℕ) → n < length ss → counterTwo ss n + cardSize (getD ss n []) ≤ 65536
+  room n i =
+      let r = behind-room a n ss 1 fresh outset h refl (omega arith) i in
+      let same = over-all n in
+      omega arith

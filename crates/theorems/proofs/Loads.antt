@@ -1,0 +1,70 @@
+-- The ways a load can go: "Loading: 50, 51, 52, each over the whole book before the next".
+use Prim.Native.Nat.{ℕ}
+use mathlib.Core.List.{List}
+use mathlib.Core.Bool.{Bool, true, false}
+use mathlib.Core.Option.{Option, none, some}
+use mathlib.Core.Path.{_≡_, refl, ap, _∙_}
+use native.Mathlib.Omega.{arith}
+use lib.Dec.{eqb}
+use borrow.Author.Tests.{eqb-true, le-leb}
+use Rattle.values.specs.Values.{movedBy}
+use Rattle.values.specs.declared.Displacement.{Displacement}
+use Rattle.values.specs.declared.Relocatable.{Relocatable}
+use Rattle.values.specs.declared.Moved.{Moved}
+use Rattle.values.specs.declared.Moved.the-variants.{To, Over as MovedOver}
+use Rattle.values.proofs.Sums.{moved-to}
+use Rattle.book.specs.declared.Entry.{Entry}
+use Rattle.book.specs.declared.Entry.the-variants.{Absent, At}
+use Rattle.book.specs.Book.{Book, bookOf}
+use Rattle.book.specs.Writing.{entryFits}
+use Rattle.fields.specs.Fields.{overField}
+use Rattle.load.specs.declared.Loaded.the-variants.{Broken, Outside, Over}
+use Rattle.load.specs.Load.{firstCard, outside, roomIn, entered, enteredAt, refused, accepted, judged, ofBook, loading}
+
+module _ (s : List ℕ) (d : Displacement) (m : List ℕ) where
+  -- the card of the first record outside storage, and of the first with a field over 65535
+  abbrev pub firstOutside : Book → ℕ
+  firstOutside b = firstCard (outside (d .0) (roomIn m)) (b .records)
+
+  abbrev pub firstOver : Book → ℕ
+  firstOver b = firstCard (overField (d .0)) (b .records)
+
+  pub data Load : Type 0 where
+    -- 50
+    isBroken : bookOf s ≡ none → loading s d m ≡ refused Broken m → Load
+    -- 51
+    isOutside : (b : Book) → bookOf s ≡ some b → loading s d m ≡ refused (Outside (firstOutside b)) m → Load
+    -- 52, of a field
+    isOver : (b : Book) → bookOf s ≡ some b → loading s d m ≡ refused (Over (firstOver b)) m → Load
+    -- 52, of the entry alone
+    isEntryOver : (b : Book) → bookOf s ≡ some b → loading s d m ≡ refused (Over 0) m → Load
+    -- accepted
+    isStored : (b : Book) → bookOf s ≡ some b → firstOutside b ≡ 0 → firstOver b ≡ 0
+        → (at : Entry) → entryFits at ≡ true → loading s d m ≡ accepted (d .0) (b .records) m at → Load
+
+  pub load : Load
+  unfolding loading judged
+  load = first (bookOf s) refl
+    where
+      moved : (b : Book) (v : Relocatable) → bookOf s ≡ some b → firstOutside b ≡ 0 → firstOver b ≡ 0
+          → (x : Moved) → x ≡ movedBy d v → loading s d m ≡ enteredAt x (d .0) (b .records) m → Load
+      moved b v f i u (To w) q e =
+          let (is, low) = moved-to d v w q in
+          isStored b f i u (At w) (le-leb (w .0) 65535 (omega arith)) e
+      moved b v f i u MovedOver q e = isEntryOver b f e
+
+      entry : (b : Book) → bookOf s ≡ some b → firstOutside b ≡ 0 → firstOver b ≡ 0 → (x : Entry) → loading s d m ≡ entered x d (b .records) m → Load
+      entry b f i u Absent e = isStored b f i u Absent refl e
+      entry b f i u (At v) e = moved b v f i u (movedBy d v) refl e
+
+      book : (b : Book) → bookOf s ≡ some b → loading s d m ≡ judged (b .entry) d (b .records) m → Load
+      book b f e = go (eqb (firstOutside b) 0) refl (eqb (firstOver b) 0) refl
+        where
+          go : (x : Bool) → eqb (firstOutside b) 0 ≡ x → (y : Bool) → eqb (firstOver b) 0 ≡ y → Load
+          go true p true q = entry b f (eqb-true (firstOutside b) 0 p) (eqb-true (firstOver b) 0 q) (b .entry) (e ∙ rw (p, q))
+          go true p false q = isOver b f (e ∙ rw (p, q))
+          go false p y q = isOutside b f (e ∙ rw p)
+
+      first : (x : Option Book) → bookOf s ≡ x → Load
+      first none f = isBroken f (ap (λ x. ofBook x d m) f)
+      first (some b) f = book b f (ap (λ x. ofBook x d m) f)

@@ -1,0 +1,89 @@
+-- How far each pass has got, and what names that only grow keep.
+use Prim.Native.Nat.{ℕ, zero, suc, _+_}
+use mathlib.Core.List.{List, [], _∷_}
+use mathlib.Core.Path.{_≡_}
+use lib.Dec.{eqb}
+use Rattle.values.specs.Tests.{pick}
+use Rattle.values.specs.declared.Value.{Value}
+use Rattle.names.specs.declared.Name.{Name}
+use Rattle.names.specs.declared.Entry.{Entry}
+use Rattle.names.specs.declared.Entry.the-variants.{Known}
+use Rattle.names.specs.Names.{find}
+use Rattle.forms.specs.Size.{sizeOf}
+use Rattle.lines.specs.declared.Reading.{Reading}
+use Rattle.lines.specs.declared.Reading.the-variants.{Comment, BadName, Statement}
+use Rattle.lines.specs.Lines.{readingOf}
+use Rattle.passes.specs.declared.Role.{Role}
+use Rattle.passes.specs.declared.Role.the-variants.{Starts, Equates, SetsCounter, Ends, Makes}
+use Rattle.passes.specs.declared.Course.{Course}
+use Rattle.passes.specs.declared.Checked.{Checked}
+use Rattle.passes.specs.declared.Checked.the-variants.{Clean, Bad}
+use Rattle.passes.specs.Cards.{roleOf}
+use Rattle.passes.specs.One.{State, Passed, fresh, stepOne, passOne}
+use Rattle.passes.specs.One.Passed.{through, stopped}
+use Rattle.passes.specs.Two.{outset, twoNo, stepTwo}
+
+-- what `look` says of a defined name, `more` says too: the same value and the same length
+abbrev pub Keeps : (ℕ → Entry) → (ℕ → Entry) → Type 0
+Keeps look more = (name : ℕ) (v : Value) (length : ℕ) → look name ≡ Known v length → more name ≡ Known v length
+
+-- BEHIND SO MANY CARDS
+
+-- where pass one stands behind the first n cards, the refusals set aside
+unfoldable pub behindOne : ℕ → State → List (List ℕ) → State
+behindOne zero st ss = st
+behindOne (suc n) st [] = st
+behindOne (suc n) st (s ∷ ss) = behindOne n (stepOne st s) ss
+
+-- where pass two stands
+unfoldable pub behindTwo : (ℕ → Entry) → ℕ → Course → List (List ℕ) → Course
+behindTwo look zero c ss = c
+behindTwo look (suc n) c [] = c
+behindTwo look (suc n) c (s ∷ ss) = behindTwo look n (stepTwo look c s) ss
+
+-- all names of a source that pass one goes through
+abbrev pub namesBy : Passed → List Name
+namesBy (through st) = st .names
+namesBy (stopped number card) = []
+
+abbrev pub lookIn : List (List ℕ) → ℕ → Entry
+lookIn ss = find (namesBy (passOne 1 fresh ss))
+
+-- the counter before card n + 1, in pass one and in pass two
+abbrev pub counterOne : List (List ℕ) → ℕ → ℕ
+counterOne ss n = behindOne n fresh ss .counter
+
+abbrev pub counterTwo : List (List ℕ) → ℕ → ℕ
+counterTwo ss n = behindTwo (lookIn ss) n outset ss .counter
+
+-- the bytes of a card
+abbrev pub readingSize : Reading → ℕ
+readingSize Comment = 0
+readingSize BadName = 0
+readingSize (Statement l) = sizeOf (l .operation) (l .shape)
+
+unfoldable pub cardSize : List ℕ → ℕ
+cardSize s = readingSize (readingOf s)
+
+-- PASS TWO WITHOUT ITS SECOND LOOK AT EQU AND ORG
+
+abbrev pub unlessSeen : Role → ℕ → ℕ
+unlessSeen Starts number = number
+unlessSeen Equates number = 0
+unlessSeen SetsCounter number = 0
+unlessSeen Ends number = number
+unlessSeen Makes number = number
+
+abbrev pub readingUnseen : Reading → ℕ → ℕ
+readingUnseen Comment number = number
+readingUnseen BadName number = number
+readingUnseen (Statement l) number = unlessSeen (roleOf (l .operation)) number
+
+-- pass two's number for a card; none for EQU and ORG
+unfoldable pub unseenNo : (ℕ → Entry) → Course → List ℕ → ℕ
+unseenNo look c s = readingUnseen (readingOf s) (twoNo look c s)
+
+unfoldable pub checkUnseen : (ℕ → Entry) → ℕ → Course → List (List ℕ) → Checked
+checkUnseen look k c [] = Clean
+checkUnseen look k c (s ∷ ss) =
+    pick (eqb (unseenNo look c s) 0) (checkUnseen look (k + 1) (stepTwo look c s) ss) (Bad (unseenNo look c s) k)
