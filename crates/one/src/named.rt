@@ -43,8 +43,14 @@ fn place_named(counter: u32, x: Shape) -> usize
         Shape::Two(_, _) => at,
         Shape::One(_, _) => at,
         Shape::Only(_) => at,
-        Shape::Constant(d) => one_less(at + d.length as usize),
-        Shape::Reserve(d) => one_less(at + d.length as usize),
+        Shape::Constant(d) => {
+            let m = d.length as usize;
+            one_less(at + m)
+        }
+        Shape::Reserve(d) => {
+            let m = d.length as usize;
+            one_less(at + m)
+        }
     }
 }
 

@@ -33,8 +33,8 @@ enum-told-9 c = search needs
 enum-known-x : tie.Need-enum-known-x
 enum-known-x c = search needs
 
-cast-one-less : tie.Need-cast-one-less
-cast-one-less c = search needs
+cast-m : tie.Need-cast-m
+cast-m c = search needs
 
 add-one-less : tie.Need-add-one-less
 add-one-less c = search needs
@@ -45,8 +45,8 @@ one-less-requires c κs = search needs
 enum-known-x-2 : tie.Need-enum-known-x-2
 enum-known-x-2 c = search needs
 
-cast-one-less-2 : tie.Need-cast-one-less-2
-cast-one-less-2 c = search needs
+cast-m-2 : tie.Need-cast-m-2
+cast-m-2 c = search needs
 
 add-one-less-2 : tie.Need-add-one-less-2
 add-one-less-2 c = search needs
@@ -101,11 +101,11 @@ place-named-spec =
     enum-told-8
     enum-told-9
     enum-known-x
-    cast-one-less
+    cast-m
     add-one-less
     one-less-requires
     enum-known-x-2
-    cast-one-less-2
+    cast-m-2
     add-one-less-2
     one-less-requires-2
     returns
