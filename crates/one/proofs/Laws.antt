@@ -25,6 +25,7 @@ use Rattle.lines.specs.declared.Reading.{Reading}
 use Rattle.lines.specs.declared.Reading.the-variants.{Statement}
 use Rattle.lines.specs.Lines.{readingOf}
 use Rattle.lines.proofs.Laws.{line-within}
+use Rattle.passes.specs.declared.Phase.{Phase}
 use Rattle.passes.specs.declared.Role.{Role}
 use Rattle.passes.specs.declared.Role.the-variants.{Starts, Equates, SetsCounter, Ends, Makes}
 use Rattle.passes.specs.Cards.{roleOf, operandsAt, counterBy, counterAfter, nameValueBy, nameValue, nameLength}
@@ -129,5 +130,6 @@ module _ (k width left at : ℕ) (st : State) (source s : List ℕ) (some : 0 < 
   pub turn-stop : (oneNo st s ≡ 0 → ⊥) → passOne k st (cardsFrom left width source at) ≡ stopped (oneNo st s) k
   turn-stop e = rw (cards-more left width source at some, ← is) (pass-stop k st s (cardsFrom (left - 1) width source (at + width)) e)
 
-pub turn-end : (k width left at : ℕ) (st : State) (source : List ℕ) → left ≤ 0 → passOne k st (cardsFrom left width source at) ≡ endedAs (st .phase) st
-turn-end k width left at st source none = rw (cards-none left width source at none) (pass-end k st)
+pub turn-end : (k width left at : ℕ) (st : State) (source : List ℕ) (phase : Phase) → left ≤ 0 → st .phase ≡ phase
+    → passOne k st (cardsFrom left width source at) ≡ endedAs phase st
+turn-end k width left at st source phase none e = rw (cards-none left width source at none) (pass-end k st ∙ ap (λ f. endedAs f st) e)

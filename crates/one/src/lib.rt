@@ -157,11 +157,12 @@ fn line_step(p: Pass, card: &[u8], l: Line, table: &mut [u8]) -> Pass
 {
     let operation = l.operation;
     let phase = p.phase;
+    let here = p.counter;
     let role = role_of(operation);
-    let x = early_operands(role, l, card, table, p.count, p.counter);
-    let counter = counter_by(role, x, p.counter, l);
+    let x = early_operands(role, l, card, table, p.count, here);
+    let counter = counter_by(role, x, here, l);
     let next = phase_after(role, phase);
-    let count = enter(role, x, p.counter, l, table, p.count);
+    let count = enter(role, x, here, l, table, p.count);
     Pass {
         counter: counter,
         count: count,

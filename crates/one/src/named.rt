@@ -15,7 +15,7 @@ use values::Value;
 use values::words::wide16;
 ghost use mathlib.Core.Path.{_≡_};
 ghost use mathlib.Core.Bool.{true};
-ghost use Prim.Native.Nat.{_-_, _≤_, _<_};
+ghost use Prim.Native.Nat.{_+_, _-_, _≤_, _<_};
 ghost use lib.ListN.{length, drop};
 ghost use Rattle.names.specs.Names.{ascending};
 ghost use Rattle.names.specs.Table.{amountOf, namesIn};
@@ -26,6 +26,14 @@ fn one_less(n: usize) -> usize
     ensures { λ r. ⌜ r ≡ n - 1 ⌝ }
 {
     if n == 0 { 0 } else { n - 1 }
+}
+
+// The last byte of a field of m bytes.
+fn last_byte(counter: u32, m: u32) -> usize
+    ensures { λ r. ⌜ r ≡ counter + m - 1 ⌝ }
+{
+    let long = m as usize;
+    one_less(counter as usize + long)
 }
 
 // The place that a card's name stands for: the last byte of the first copy on DC and DS, else the first byte.
@@ -43,8 +51,8 @@ fn place_named(counter: u32, x: Shape) -> usize
         Shape::Two(_, _) => at,
         Shape::One(_, _) => at,
         Shape::Only(_) => at,
-        Shape::Constant(d) => one_less(at + d.length as usize),
-        Shape::Reserve(d) => one_less(at + d.length as usize),
+        Shape::Constant(d) => last_byte(counter, d.length),
+        Shape::Reserve(d) => last_byte(counter, d.length),
     }
 }
 

@@ -12,7 +12,7 @@ use Rattle.names.proofs.Table.{names-none}
 use Rattle.cards.specs.Source.{cardsFrom, cardsOf}
 use Rattle.cards.proofs.Whole.{source-whole, card-inside, cards-all}
 use Rattle.passes.specs.declared.Phase.the-variants.{Before}
-use Rattle.passes.specs.One.{fresh, endedAs, passOne}
+use Rattle.passes.specs.One.{fresh, passOne}
 use Rattle.passes.specs.One.Passed.{stopped}
 use Rattle.one.specs.Code.{standsFor, Fit}
 use Rattle.one.proofs.Laws.{turn-more, turn-stop, turn-end}
@@ -103,22 +103,22 @@ same-length-2 : tie.Need-same-length-2 Inv-loop μ-loop
 same-length-2 c = c .before .before .before .loop .inv .2
 
 returns-2 : tie.Need-returns-2 Inv-loop μ-loop
-returns-2 c = let l = c .before .before .before .loop in let a = c .before .before .before .before .before .before .before .args in let st = standsFor (l .p) (l .table) in
-    (sym (l .inv .5 ∙ turn-end (l .k) (a .width) (l .left) (l .at) st (a .source .now) (c .before .before .loop-test .left) ∙ ap (λ f. endedAs f st) (c .enum-told .given .1)), l .inv .4)
+returns-2 c = let l = c .before .before .before .loop in let a = c .before .before .before .before .before .before .before .args in
+    (sym (l .inv .5 ∙ turn-end (l .k) (a .width) (l .left) (l .at) (standsFor (l .p) (l .table)) (a .source .now) _ (c .before .before .loop-test .left) (c .enum-told .given .1)), l .inv .4)
 
 same-length-3 : tie.Need-same-length-3 Inv-loop μ-loop
 same-length-3 c = c .before .before .before .loop .inv .2
 
 returns-3 : tie.Need-returns-3 Inv-loop μ-loop
-returns-3 c = let l = c .before .before .before .loop in let a = c .before .before .before .before .before .before .before .args in let st = standsFor (l .p) (l .table) in
-    (sym (l .inv .5 ∙ turn-end (l .k) (a .width) (l .left) (l .at) st (a .source .now) (c .before .before .loop-test .left) ∙ ap (λ f. endedAs f st) (c .enum-told2 .given .1)), l .inv .4)
+returns-3 c = let l = c .before .before .before .loop in let a = c .before .before .before .before .before .before .before .args in
+    (sym (l .inv .5 ∙ turn-end (l .k) (a .width) (l .left) (l .at) (standsFor (l .p) (l .table)) (a .source .now) _ (c .before .before .loop-test .left) (c .enum-told2 .given .1)), l .inv .4)
 
 same-length-4 : tie.Need-same-length-4 Inv-loop μ-loop
 same-length-4 c = c .before .before .before .loop .inv .2
 
 returns-4 : tie.Need-returns-4 Inv-loop μ-loop
-returns-4 c = let l = c .before .before .before .loop in let a = c .before .before .before .before .before .before .before .args in let st = standsFor (l .p) (l .table) in
-    (sym (l .inv .5 ∙ turn-end (l .k) (a .width) (l .left) (l .at) st (a .source .now) (c .before .before .loop-test .left) ∙ ap (λ f. endedAs f st) (c .enum-told3 .given .1)), l .inv .4)
+returns-4 c = let l = c .before .before .before .loop in let a = c .before .before .before .before .before .before .before .args in
+    (sym (l .inv .5 ∙ turn-end (l .k) (a .width) (l .left) (l .at) (standsFor (l .p) (l .table)) (a .source .now) _ (c .before .before .loop-test .left) (c .enum-told3 .given .1)), l .inv .4)
 
 pub run-one-spec : {M : Type 1} → statement M
 run-one-spec =

@@ -33,26 +33,14 @@ enum-told-9 c = search needs
 enum-known-x : tie.Need-enum-known-x
 enum-known-x c = search needs
 
-cast-one-less : tie.Need-cast-one-less
-cast-one-less c = search needs
-
-add-one-less : tie.Need-add-one-less
-add-one-less c = search needs
-
-one-less-requires : tie.Need-one-less-requires
-one-less-requires c κs = search needs
+last-byte-requires : tie.Need-last-byte-requires
+last-byte-requires c κs = search needs
 
 enum-known-x-2 : tie.Need-enum-known-x-2
 enum-known-x-2 c = search needs
 
-cast-one-less-2 : tie.Need-cast-one-less-2
-cast-one-less-2 c = search needs
-
-add-one-less-2 : tie.Need-add-one-less-2
-add-one-less-2 c = search needs
-
-one-less-requires-2 : tie.Need-one-less-requires-2
-one-less-requires-2 c κs = search needs
+last-byte-requires-2 : tie.Need-last-byte-requires-2
+last-byte-requires-2 c κs = search needs
 
 returns : tie.Need-returns
 returns c = search needs
@@ -82,10 +70,10 @@ returns-9 : tie.Need-returns-9
 returns-9 c = search needs
 
 returns-10 : tie.Need-returns-10
-returns-10 c = rw (c .before .before .before .x .given .1) (c .one-less .ensures)
+returns-10 c = rw (c .before .before .x .given .1) (c .last-byte .ensures)
 
 returns-11 : tie.Need-returns-11
-returns-11 c = rw (c .before .before .before .x2 .given .1) (c .one-less2 .ensures)
+returns-11 c = rw (c .before .before .x2 .given .1) (c .last-byte2 .ensures)
 
 pub place-named-spec : {M : Type 1} → statement M
 place-named-spec =
@@ -101,13 +89,9 @@ place-named-spec =
     enum-told-8
     enum-told-9
     enum-known-x
-    cast-one-less
-    add-one-less
-    one-less-requires
+    last-byte-requires
     enum-known-x-2
-    cast-one-less-2
-    add-one-less-2
-    one-less-requires-2
+    last-byte-requires-2
     returns
     returns-2
     returns-3
