@@ -4,3 +4,4 @@ pub mod Fine
 pub mod Names
 pub mod Counter
 pub mod Named
+pub mod Assembly
