@@ -22,3 +22,4 @@ mod RaisedLoad
 mod RaisedTwo
 mod Started
 pub mod Moved
+pub mod Demand3

@@ -3,10 +3,11 @@
 -- and loading the first by d and the second by 0 gives the same answer and the same storage, for every storage: 51 and 52 included, overlaid fields included.
 use Prim.{tt}
 use Prim.Native.Nat.{ℕ, _+_, _≤_}
-use mathlib.Core.List.{List, [], _∷_, _++_, map}
+use mathlib.Core.List.{List, [], _∷_, _++_, map, List·Memᴰ, Memᴰ·map}
 use mathlib.Core.Bool.{Bool, true, false}
 use mathlib.Core.Path.{_≡_, refl, sym, ap, _∙_, subst}
-use lib.ListN.{length, take, length-map}
+use native.Mathlib.Omega.{arith}
+use lib.ListN.{length, getD, length-append, length-map}
 use lib.Dec.{eqb}
 use Rattle.values.specs.Tests.{pick}
 use Rattle.values.specs.declared.Value.the-variants.{Relocatable}
@@ -29,9 +30,11 @@ use Rattle.passes.specs.Assembly.{assembled}
 use Rattle.passes.specs.Assembly.Result.{made}
 use Rattle.passes.proofs.Turns.{pass-turn, check-turn}
 use Rattle.load.specs.Load.{judged, loading}
+use Rattle.theorems.specs.Fields.{Apart}
 use Rattle.theorems.specs.Moved.{raisedState, raisedCourse, raisedEntry, movedRecord, movedBook, Starting, SameButStart}
 use Rattle.theorems.proofs.Made.{Both, both-passed}
 use Rattle.theorems.proofs.Readable.{entry-fits, loaded-as-made}
+use Rattle.theorems.proofs.Fields.{other-bytes}
 use Rattle.theorems.proofs.RaisedOne.{AllUsual, pass-usual, pass-raised}
 use Rattle.theorems.proofs.RaisedTwo.{records-raised, entries-raised}
 use Rattle.theorems.proofs.RaisedLoad.{Raised, records-moved, judged-same}
@@ -112,3 +115,26 @@ module _ (d : ℕ) (ss ts : List (List ℕ)) (same : SameButStart d ss ts) (n m 
       let y = both-passed ts m c accepted′ in
       let fits : entryFits (c .entry) ≡ true = rw (y .book) (entry-fits (find (y .end .names)) ts outset) in
       rw (all .2) (judged-same d (b .records) (c .records) (all .1) storage (b .entry) (rw (all .2) at fits))
+
+  -- "every other byte of its text is the same at every start value": each record of the first book is there in the second, of the same card,
+  -- and a byte of its text that is in no listed field is the same
+  pub other-bytes-stay : (r : Record) → List·Memᴰ r (b .records)
+      → (q : Record) × (List·Memᴰ q (c .records)) × (q .card ≡ r .card) × (q .fields ≡ r .fields) × ((i : ℕ) → Apart i (r .fields) → getD (q .text) i 0 ≡ getD (r .text) i 0)
+  other-bytes-stay r h =
+      let here = subst (List·Memᴰ (movedRecord d r)) (sym (ap (λ (x : Book). x .records) book-raised)) (Memᴰ·map (movedRecord d) h) in
+      (movedRecord d r, here, refl, refl, other-bytes d r)
+
+-- THE SAME OF THE BOOKS' BYTES, where there are at most 4,000 cards
+pub moved-is-raised : (d : ℕ) (ss ts : List (List ℕ)) → SameButStart d ss ts → length ss ≤ 4000 → (n m : ℕ) (b c : Book)
+    → assembled ss ≡ made n b → assembled ts ≡ made m c
+    → (m ≡ n) × ((storage : List ℕ) → loading (bookBytes b) (record { 0 = d }) storage ≡ loading (bookBytes c) (record { 0 = 0 }) storage)
+moved-is-raised d ss ts same few n m b c p q = (
+  same-names d ss ts same n m b c p q,
+  λ storage. loaded-as-made ss few n b p (record { 0 = d }) storage ∙ records-load d ss ts same n m b c p q storage ∙ sym (loaded-as-made ts few′ m c q (record { 0 = 0 }) storage),
+)
+  where
+    few′ : length ts ≤ 4000
+    few′ =
+        let i = ap length (same .lower) ∙ length-append (same .before) (same .first ∷ same .after) in
+        let j = ap length (same .higher) ∙ length-append (same .before) (same .second ∷ same .after) in
+        omega arith
