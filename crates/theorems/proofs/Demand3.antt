@@ -6,15 +6,14 @@ use mathlib.Core.List.{List, [], _∷_, map}
 use mathlib.Core.Path.{_≡_, refl, sym, ap, _∙_}
 use mathlib.Core.Option.{some}
 use native.Mathlib.Omega.{arith}
-use lib.ListN.{length, take}
+use lib.ListN.{take}
 use Rattle.values.specs.declared.Displacement.{Displacement}
 use Rattle.book.specs.Book.{Record, Book, bookOf}
 use Rattle.cards.specs.Source.{cardsOf}
 use Rattle.fields.proofs.Laws.{moved-length}
 use Rattle.load.specs.Load.{judged, ofBook, loading}
 use Rattle.passes.specs.declared.Assembled.the-variants.{Made}
-use Rattle.passes.specs.Assembly.{assembled, assembling}
-use Rattle.passes.specs.Assembly.Result.{made}
+use Rattle.passes.specs.Assembly.{assembling}
 use Rattle.theorems.specs.Sums.{total, recordLength}
 use Rattle.theorems.specs.Moved.{movedRecord, SameButStart}
 use Rattle.theorems.proofs.Readable.{call-readable}
@@ -50,7 +49,8 @@ demand-3 d width source work out bytes names h width′ source′ work′ out′
     let (c, q, _, is′) = call-readable width′ source′ work′ out′ bytes′ names′ k in
     let (_, f, size, _) = counts-of-call width source work out bytes names h in
     let (_, g, size′, _) = counts-of-call width′ source′ work′ out′ bytes′ names′ k in
-    let raised = book-raised d _ _ same names names′ _ _ f g in
-    (size′ ∙ ap (λ (x : Book). 8 + total recordLength (x .records)) raised ∙ ap (λ n. 8 + n) (moved-size d _) ∙ sym size,
+    let raised = book-raised d _ _ same names names′ _ _ f g in (
+      size′ ∙ ap (λ (x : Book). 8 + total recordLength (x .records)) raised ∙ ap (λ n. 8 + n) (moved-size d _) ∙ sym size,
       same-names d _ _ same names names′ b c p q,
-      λ storage. read-judged _ b is (record { 0 = d }) storage ∙ records-load d _ _ same names names′ b c p q storage ∙ sym (read-judged _ c is′ (record { 0 = 0 }) storage))
+      λ storage. read-judged _ b is (record { 0 = d }) storage ∙ records-load d _ _ same names names′ b c p q storage ∙ sym (read-judged _ c is′ (record { 0 = 0 }) storage),
+    )

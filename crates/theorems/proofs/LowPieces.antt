@@ -1,5 +1,5 @@
 -- Every value among the pieces of a card is at most 65535, since that of an expression is.
-use Prim.{Unit, tt}
+use Prim.{tt}
 use Prim.Native.Nat.{ℕ, zero, suc, _-_, _/_, _%_, _<_}
 use mathlib.Core.List.{List, [], _∷_, _++_, map}
 use mathlib.Core.Bool.{Bool, true, false}
@@ -33,11 +33,9 @@ use Rattle.statements.specs.Places.{useOf, isRegister, baseOf, awayFrom, displa
 use Rattle.statements.specs.Statements.{jumpOf, statementFrom}
 use Rattle.encode.specs.Pieces.{Piece, operandPieces, addressPieces, copied, piecesOf}
 use Rattle.encode.specs.Pieces.Piece.{plain, value}
-use Rattle.lines.specs.declared.Line.{Line}
 use Rattle.lines.specs.declared.Reading.{Reading}
 use Rattle.lines.specs.Lines.{readingOf, operandIn as columns}
 use Rattle.passes.specs.declared.Course.{Course}
-use Rattle.passes.specs.Cards.{operandsAt}
 use Rattle.passes.specs.Two.{constantPieces, shapePieces, linePieces, readingPieces, cardPieces}
 use Rattle.theorems.proofs.RaisedText.{Low}
 

@@ -14,31 +14,26 @@ use Rattle.values.specs.declared.Value.the-variants.{Relocatable}
 use Rattle.names.specs.declared.Name.{Name}
 use Rattle.names.specs.Names.{find}
 use Rattle.names.specs.Raised.{raisedName}
-use Rattle.operations.specs.declared.Operation.the-variants.{Start}
 use Rattle.book.specs.Book.{Record, Book}
 use Rattle.book.specs.Writing.{bookBytes, entryFits}
-use Rattle.lines.specs.declared.Line.{Line}
-use Rattle.lines.specs.declared.Reading.the-variants.{Statement}
-use Rattle.lines.specs.Lines.{readingOf}
 use Rattle.passes.specs.declared.Phase.the-variants.{Within}
 use Rattle.passes.specs.declared.Checked.the-variants.{Clean}
-use Rattle.passes.specs.Cards.{startValue}
 use Rattle.passes.specs.One.{State, fresh, passOne}
 use Rattle.passes.specs.One.Passed.{through}
-use Rattle.passes.specs.Two.{outset, stepTwo, checkTwo, recordsFrom, entryFrom, bookFrom}
+use Rattle.passes.specs.Two.{outset, checkTwo, recordsFrom, entryFrom, bookFrom}
 use Rattle.passes.specs.Assembly.{assembled}
 use Rattle.passes.specs.Assembly.Result.{made}
-use Rattle.passes.proofs.Turns.{pass-turn, check-turn}
 use Rattle.load.specs.Load.{judged, loading}
 use Rattle.theorems.specs.Fields.{Apart}
-use Rattle.theorems.specs.Moved.{raisedState, raisedCourse, raisedEntry, movedRecord, movedBook, Starting, SameButStart}
-use Rattle.theorems.proofs.Made.{Both, both-passed}
+use Rattle.theorems.specs.Raised.{raisedState}
+use Rattle.theorems.specs.Moved.{raisedEntry, movedRecord, movedBook, Starting, SameButStart}
+use Rattle.theorems.proofs.Made.{both-passed}
 use Rattle.theorems.proofs.Readable.{entry-fits, loaded-as-made}
 use Rattle.theorems.proofs.Fields.{other-bytes}
 use Rattle.theorems.proofs.RaisedOne.{AllUsual, pass-usual, pass-raised}
 use Rattle.theorems.proofs.RaisedTwo.{records-raised, entries-raised}
 use Rattle.theorems.proofs.RaisedLoad.{Raised, records-moved, judged-same}
-use Rattle.theorems.proofs.Started.{AllComments, behind, begunOne, begunTwo, only-comments, one-behind, two-behind, records-behind, entry-behind}
+use Rattle.theorems.proofs.Started.{AllComments, behind, begunOne, begunTwo, start-fits, only-comments, one-behind, two-behind, records-behind, entry-behind}
 
 begun-raised : (d name at : ℕ) → begunOne name (at + d) ≡ raisedState d (begunOne name at)
 begun-raised d name at = ap (λ ns. record { counter = at + d; names = ns; phase = Within }) (go (eqb name 0))
@@ -78,35 +73,40 @@ module _ (d : ℕ) (before after : List (List ℕ)) (s t : List ℕ) (name at : 
   deck-raised clean clean′ =
       let names : e .names ≡ up = ap (λ (x : State). x .names) end-raised in
       let lower = two-behind before s after name at starts comments (find (a .names)) clean in
-      let higher = rw names at (two-behind before t after name (at + d) starts′ comments (find (e .names)) clean′) in
-      (names,
+      let higher = rw names at (two-behind before t after name (at + d) starts′ comments (find (e .names)) clean′) in (
+        names,
         rw (records-behind before s after name at starts comments (find (a .names)), records-behind before t after name (at + d) starts′ comments (find (e .names)), names)
-        (records-raised d (a .names) after next (begunTwo at) usual lower higher),
+            (records-raised d (a .names) after next (begunTwo at) usual lower higher),
         rw (entry-behind before s after name at starts comments (find (a .names)), entry-behind before t after name (at + d) starts′ comments (find (e .names)), names)
-        (entries-raised d (a .names) after next (begunTwo at) usual lower higher))
+            (entries-raised d (a .names) after next (begunTwo at) usual lower higher),
+      )
+
+-- "the displacement (unsigned, 16 bits)": d is one, since both values are
+pub displacement-fits : (d : ℕ) (ss ts : List (List ℕ)) → SameButStart d ss ts → d ≤ 65535
+displacement-fits d ss ts same = let h = start-fits (same .second) (same .name) (same .start + d) (same .startsHigher) in omega arith
 
 -- THE THEOREM, of two such decks that are both accepted
 module _ (d : ℕ) (ss ts : List (List ℕ)) (same : SameButStart d ss ts) (n m : ℕ) (b c : Book) (accepted : assembled ss ≡ made n b) (accepted′ : assembled ts ≡ made m c) where
-  all : (m ≡ n) × (Raised d (b .records) (c .records)) × (c .entry ≡ raisedEntry d (b .entry))
+  deck-books : (m ≡ n) × (Raised d (b .records) (c .records)) × (c .entry ≡ raisedEntry d (b .entry))
   unfolding bookFrom
-  all =
+  deck-books =
       let x = both-passed ss n b accepted in
       let y = both-passed ts m c accepted′ in
       let (names, records, entry) =
-        deck-raised d (same .before) (same .after) (same .first) (same .second) (same .name) (same .start) (same .starts) (same .startsHigher)
-          (x .end) (y .end) (ap (passOne 1 fresh) (sym (same .lower)) ∙ x .one) (ap (passOne 1 fresh) (sym (same .higher)) ∙ y .one)
-          (ap (checkTwo (find (x .end .names)) 1 outset) (sym (same .lower)) ∙ x .two) (ap (checkTwo (find (y .end .names)) 1 outset) (sym (same .higher)) ∙ y .two) in
+      deck-raised d (same .before) (same .after) (same .first) (same .second) (same .name) (same .start) (same .starts) (same .startsHigher)
+      (x .end) (y .end) (ap (passOne 1 fresh) (sym (same .lower)) ∙ x .one) (ap (passOne 1 fresh) (sym (same .higher)) ∙ y .one)
+      (ap (checkTwo (find (x .end .names)) 1 outset) (sym (same .lower)) ∙ x .two) (ap (checkTwo (find (y .end .names)) 1 outset) (sym (same .higher)) ∙ y .two) in
       let f : b ≡ bookFrom (find (x .end .names)) (same .before ++ same .first ∷ same .after) = x .book ∙ ap (bookFrom (find (x .end .names))) (same .lower) in
       let g : c ≡ bookFrom (find (y .end .names)) (same .before ++ same .second ∷ same .after) = y .book ∙ ap (bookFrom (find (y .end .names))) (same .higher) in
       (y .count ∙ ap length names ∙ length-map (x .end .names) (raisedName d) ∙ sym (x .count), rw (f, g) records, rw (f, g) entry)
 
   -- the counts of names agree
   pub same-names : m ≡ n
-  same-names = all .0
+  same-names = deck-books .0
 
   -- the second book is the first, moved as the loader moves it: entry and addresses d higher, d added to the listed fields and to nothing else
   pub book-raised : c ≡ movedBook d b
-  book-raised = rw (← records-moved d (b .records) (c .records) (all .1), ← all .2)
+  book-raised = rw (← records-moved d (b .records) (c .records) (deck-books .1), ← deck-books .2)
 
   -- loading the records of the first by d and those of the second by 0: the same answer, the same storage
   pub records-load : (storage : List ℕ) → judged (b .entry) (record { 0 = d }) (b .records) storage ≡ judged (c .entry) (record { 0 = 0 }) (c .records) storage
@@ -114,7 +114,7 @@ module _ (d : ℕ) (ss ts : List (List ℕ)) (same : SameButStart d ss ts) (n m 
   records-load storage =
       let y = both-passed ts m c accepted′ in
       let fits : entryFits (c .entry) ≡ true = rw (y .book) (entry-fits (find (y .end .names)) ts outset) in
-      rw (all .2) (judged-same d (b .records) (c .records) (all .1) storage (b .entry) (rw (all .2) at fits))
+      rw (deck-books .2) (judged-same d (b .records) (c .records) (deck-books .1) storage (b .entry) (rw (deck-books .2) at fits))
 
   -- "every other byte of its text is the same at every start value": each record of the first book is there in the second, of the same card,
   -- and a byte of its text that is in no listed field is the same

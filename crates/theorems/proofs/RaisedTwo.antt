@@ -1,7 +1,7 @@
 -- Pass two over the same cards, behind START: over names raised by d, from a course raised by d. Where both are clean, records and entry are raised.
 use Prim.Native.Nat.{ℕ, _+_}
 use mathlib.Core.List.{List, [], _∷_, map}
-use mathlib.Core.Path.{_≡_, refl, sym, ap, _∙_, subst}
+use mathlib.Core.Path.{_≡_, refl}
 use Rattle.values.specs.declared.Value.{Value}
 use Rattle.values.specs.declared.Value.the-variants.{Absolute, Relocatable}
 use Rattle.values.proofs.Refusals.{or-zero}
@@ -27,7 +27,8 @@ use Rattle.passes.specs.Cards.{roleOf, operandsAt}
 use Rattle.passes.specs.One.{earlyNo}
 use Rattle.passes.specs.Two.{readingTwoNo, twoNo, readingTwoStep, stepTwo, checkTwo, readingPieces, cardPieces, withRecord, recordsFrom, entryBy, roleEntry, readingEntry, entryFrom}
 use Rattle.passes.proofs.Turns.{check-turn}
-use Rattle.theorems.specs.Moved.{raisedOperands, raisedPiece, raisedCourse, raisedEntry}
+use Rattle.theorems.specs.Raised.{raisedPiece, raisedCourse}
+use Rattle.theorems.specs.Moved.{raisedEntry}
 use Rattle.theorems.proofs.RaisedOperands.{operands-raised}
 use Rattle.theorems.proofs.RaisedStatements.{lone-raised}
 use Rattle.theorems.proofs.RaisedCards.{early-none, counter-raised, bases-raised, line-pieces}

@@ -1,25 +1,23 @@
 -- Up to START: only comment cards stand before it, and it sets the counter and its name and makes nothing.
 use Prim.{Unit, tt}
-use Prim.Native.Nat.{ℕ, _+_}
-use mathlib.Core.List.{List, [], _∷_, _++_, map}
-use mathlib.Core.Bool.{Bool, true, false}
-use mathlib.Core.Path.{_≡_, refl, sym, ap, _∙_, subst}
+use Prim.Native.Nat.{ℕ, _+_, _≤_}
+use mathlib.Core.List.{List, [], _∷_, _++_}
+use mathlib.Core.Path.{_≡_, refl, ap, _∙_}
 use native.Mathlib.Omega.{arith}
 use lib.Dec.{eqb}
 use Rattle.values.specs.Tests.{pick}
 use Rattle.values.specs.declared.Value.the-variants.{Relocatable}
 use Rattle.names.specs.declared.Name.{Name}
 use Rattle.names.specs.declared.Entry.{Entry}
-use Rattle.names.specs.Names.{find, defined}
+use Rattle.names.specs.Names.{defined}
 use Rattle.operations.specs.declared.Operation.the-variants.{Start}
 use Rattle.forms.specs.declared.Shape.{Shape}
 use Rattle.forms.specs.Shape.{shapeOf}
-use Rattle.statements.specs.declared.places.Base.{Base}
-use Rattle.statements.specs.declared.places.Bases.{Bases}
+use Rattle.forms.proofs.Laws.{ShapeIn, shape-in}
 use Rattle.statements.specs.Operands.{operandsOf}
 use Rattle.statements.specs.Places.{basesBy}
 use Rattle.statements.specs.Statements.{statementFrom, statementOf}
-use Rattle.encode.specs.Pieces.{Piece, piecesOf}
+use Rattle.encode.specs.Pieces.{piecesOf}
 use Rattle.book.specs.declared.Entry.{Entry as BookEntry}
 use Rattle.lines.specs.declared.Line.{Line}
 use Rattle.lines.specs.declared.Reading.{Reading}
@@ -29,10 +27,10 @@ use Rattle.passes.specs.declared.Role.{Role}
 use Rattle.passes.specs.declared.Phase.the-variants.{Before, Within}
 use Rattle.passes.specs.declared.Course.{Course}
 use Rattle.passes.specs.declared.Checked.the-variants.{Clean}
-use Rattle.passes.specs.Cards.{roleOf, startValue, operandsAt, counterBy, counterAfter, nameValueBy, nameValue, nameLength}
-use Rattle.passes.specs.One.{State, fresh, missingNo, readingNo, oneNo, entered, phaseAfter, readingStep, stepOne, passOne}
+use Rattle.passes.specs.Cards.{roleOf, startValue, counterAfter, nameValue, nameLength}
+use Rattle.passes.specs.One.{State, fresh, missingNo, readingNo, entered, phaseAfter, stepOne, passOne}
 use Rattle.passes.specs.One.Passed.{through}
-use Rattle.passes.specs.Two.{outset, twoNo, readingTwoStep, stepTwo, checkTwo, shapePieces, linePieces, readingPieces, cardPieces, recordsFrom, readingEntry, entryFrom}
+use Rattle.passes.specs.Two.{outset, stepTwo, checkTwo, shapePieces, linePieces, cardPieces, recordsFrom, readingEntry, entryFrom}
 use Rattle.passes.proofs.Turns.{pass-turn, check-turn}
 use Rattle.passes.proofs.Fine.{fine, one-zero}
 use Rattle.theorems.specs.Moved.{Starting}
@@ -114,6 +112,11 @@ module _ (s : List ℕ) (l : Line) (reads : readingOf s ≡ Statement l) (is : l
       let e : l .shape ≡ shapeOf Start (operandIn s l) = line-shape s l reads ∙ ap (λ op. shapeOf op (operandIn s l)) is in
       rw e (start-has P fails (operandIn s l) nothing starts)
 
+  line-fits : startValue (l .shape) ≤ 65535
+  line-fits =
+      let inside : ShapeIn (operandIn s l) (l .shape) = rw (line-shape s l reads) (shape-in (l .operation) (operandIn s l)) in
+      shape-is (λ x. ShapeIn (operandIn s l) x → startValue x ≤ 65535) (λ q h. omega arith) (λ h. omega arith) (λ v h. omega arith) inside
+
   line-one : stepOne fresh s ≡ begunOne (l .name) (startValue (l .shape))
   unfolding stepOne entered nameValue counterAfter defined
   line-one =
@@ -137,6 +140,9 @@ module _ (s : List ℕ) (l : Line) (reads : readingOf s ≡ Statement l) (is : l
       let (again, _) = rw reads at u in
       let z = rw is at again in
       omega arith
+
+pub start-fits : (s : List ℕ) (name at : ℕ) → Starting s name at → at ≤ 65535
+start-fits s name at card = rw (card .value) at (line-fits s (card .line) (card .reads) (card .operation))
 
 -- A DECK WITH START AT A PLACE, whose passes come down to the cards behind it
 
