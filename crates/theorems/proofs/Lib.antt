@@ -14,3 +14,13 @@ pub mod Readable
 pub mod Sums
 pub mod Fields
 pub mod Untouched
+mod RaisedOperands
+mod RaisedStatements
+mod RaisedCards
+mod RaisedText
+mod LowPieces
+mod RaisedOne
+mod RaisedLoad
+mod RaisedTwo
+mod Started
+pub mod Moved

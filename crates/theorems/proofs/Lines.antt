@@ -78,7 +78,7 @@ module _ (P : Shape → Type 0) (fails : (q : ℕ) → P (Fails q)) (o : List �
   address-has (Reads a q) on p = p a q
   address-has (Stops q) on p = fails q
 
-  last-has : (p : ℕ) (x : Shape) → P x → P (lastAt o p x)
+  pub last-has : (p : ℕ) (x : Shape) → P x → P (lastAt o p x)
   unfolding lastAt
   last-has p x h = form-has (formOf (expressionAt o p)) (λ q. ended o q x) (λ q. ended-has q x h)
 
@@ -89,7 +89,7 @@ module _ (P : Shape → Type 0) (fails : (q : ℕ) → P (Fails q)) (o : List �
       go true = n
       go false = h
 
-  start-has : P Nothing → ((v : ℕ) → P (StartAt v)) → P (startShape o)
+  pub start-has : P Nothing → ((v : ℕ) → P (StartAt v)) → P (startShape o)
   unfolding startShape
   start-has n h = absent-has n (startOf o (startTerm o)) (go (startTerm o))
     where
@@ -103,7 +103,7 @@ module _ (P : Shape → Type 0) (fails : (q : ℕ) → P (Fails q)) (o : List �
   unfolding endShape
   end-has n h = absent-has n (lastAt o 0 Expression) (last-has 0 Expression h)
 
-  pair-has : ((p : ℕ) → P (Pair p)) → P (pairShape o)
+  pub pair-has : ((p : ℕ) → P (Pair p)) → P (pairShape o)
   unfolding pairShape
   pair-has h =
       form-has (formOf (expressionAt o 0)) (λ q. behindComma o q (λ p. lastAt o p (Pair p)))

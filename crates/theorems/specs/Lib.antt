@@ -3,3 +3,4 @@ pub mod Grow
 pub mod Readable
 pub mod Sums
 pub mod Fields
+pub mod Moved
