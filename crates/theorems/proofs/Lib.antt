@@ -24,3 +24,4 @@ mod RaisedLoad
 mod RaisedTwo
 mod Started
 pub mod Moved
+pub mod Demand3

@@ -135,7 +135,7 @@ entry-low : (v : Value) → amountOf v ≤ 65535 → entryFits (entryBy v) ≡ t
 entry-low (Absolute a) h = refl
 entry-low (Relocatable a) h = le-leb (a .0) 65535 h
 
-entry-fits : (look : ℕ → Entry) (ss : List (List ℕ)) (c : Course) → entryFits (entryFrom look c ss) ≡ true
+pub entry-fits : (look : ℕ → Entry) (ss : List (List ℕ)) (c : Course) → entryFits (entryFrom look c ss) ≡ true
 unfolding entryFrom
 entry-fits look [] c = refl
 entry-fits look (s ∷ ss) c = go (readingOf s) (entryFrom look (stepTwo look c s) ss) (entry-fits look ss (stepTwo look c s))
