@@ -59,13 +59,13 @@ module _ (width : ℕ) (source work out : List ℕ) where
     -- 1, 2 and 3
     atOnce : (number : ℕ) → 1 ≤ number → number ≤ 3 → assembling width source work out ≡ refusedAtOnce number work out → Way
     -- a card is refused, or END is missing
-    byCards : (number card : ℕ) → assembled (cardsOf width source) ≡ refused number card
+    byCards : workSize ≤ length work → (number card : ℕ) → assembled (cardsOf width source) ≡ refused number card
         → assembling width source work out ≡ record { answer = Refused number card; work = zeroed workSize work; out = out } → Way
     -- 30
-    tooLong : (names : ℕ) (book : Book) → assembled (cardsOf width source) ≡ made names book → length out < length (bookBytes book)
+    tooLong : workSize ≤ length work → (names : ℕ) (book : Book) → assembled (cardsOf width source) ≡ made names book → length out < length (bookBytes book)
         → assembling width source work out ≡ record { answer = Refused 30 0; work = zeroed workSize work; out = out } → Way
     -- accepted
-    whole : (names : ℕ) (book : Book) → length (cardsOf width source) ≤ 4000 → assembled (cardsOf width source) ≡ made names book
+    whole : workSize ≤ length work → (names : ℕ) (book : Book) → length (cardsOf width source) ≤ 4000 → assembled (cardsOf width source) ≡ made names book
         → length (bookBytes book) ≤ length out
         → assembling width source work out ≡ record { answer = Made (length (bookBytes book)) names; work = zeroed workSize work; out = sets out 0 (bookBytes book) } → Way
 
@@ -73,22 +73,22 @@ module _ (width : ℕ) (source work out : List ℕ) where
   unfolding assembling
   way = first (eqb (sourceNo width (length source)) 0) refl
     where
-      space : (names : ℕ) (book : Book) → sourceNo width (length source) ≡ 0 → assembled (cardsOf width source) ≡ made names book
+      space : workSize ≤ length work → (names : ℕ) (book : Book) → sourceNo width (length source) ≡ 0 → assembled (cardsOf width source) ≡ made names book
           → assembling width source work out ≡ written names (bookBytes book) (zeroed workSize work) out → Way
-      space names book e f g = go (ltb (length out) (length (bookBytes book))) refl
+      space w names book e f g = go (ltb (length out) (length (bookBytes book))) refl
         where
           go : (b : Bool) → ltb (length out) (length (bookBytes book)) ≡ b → Way
-          go true h = tooLong names book f (ltb-true (length out) (length (bookBytes book)) h) (g ∙ rw h)
-          go false h = whole names book (cards-few width source e) f (ltb-false (length out) (length (bookBytes book)) h) (g ∙ rw h)
+          go true h = tooLong w names book f (ltb-true (length out) (length (bookBytes book)) h) (g ∙ rw h)
+          go false h = whole w names book (cards-few width source e) f (ltb-false (length out) (length (bookBytes book)) h) (g ∙ rw h)
 
-      third : sourceNo width (length source) ≡ 0 → assembling width source work out ≡ outcomeOf (assembled (cardsOf width source)) (zeroed workSize work) out
+      third : workSize ≤ length work → sourceNo width (length source) ≡ 0 → assembling width source work out ≡ outcomeOf (assembled (cardsOf width source)) (zeroed workSize work) out
           → (r : Result) → assembled (cardsOf width source) ≡ r → Way
-      third e f (made names book) g = space names book e g (f ∙ ap (λ x. outcomeOf x (zeroed workSize work) out) g)
-      third e f (refused number card) g = byCards number card g (f ∙ ap (λ x. outcomeOf x (zeroed workSize work) out) g)
+      third w e f (made names book) g = space w names book e g (f ∙ ap (λ x. outcomeOf x (zeroed workSize work) out) g)
+      third w e f (refused number card) g = byCards w number card g (f ∙ ap (λ x. outcomeOf x (zeroed workSize work) out) g)
 
       second : eqb (sourceNo width (length source)) 0 ≡ true → (b : Bool) → ltb (length work) workSize ≡ b → Way
       second e true f = atOnce 3 (omega arith) (omega arith) (rw (e, f))
-      second e false f = third (eqb-true (sourceNo width (length source)) 0 e) (rw (e, f)) (assembled (cardsOf width source)) refl
+      second e false f = third (ltb-false (length work) workSize f) (eqb-true (sourceNo width (length source)) 0 e) (rw (e, f)) (assembled (cardsOf width source)) refl
 
       first : (b : Bool) → eqb (sourceNo width (length source)) 0 ≡ b → Way
       first true e = second e (ltb (length work) workSize) refl

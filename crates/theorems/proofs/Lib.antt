@@ -6,12 +6,14 @@ mod Kept
 pub mod Grow
 mod Texts
 mod Made
+mod Numbers
 mod Stores
 mod Called
 mod Loads
 pub mod Readable
 pub mod Sums
 pub mod Fields
+pub mod Untouched
 mod RaisedOperands
 mod RaisedStatements
 mod RaisedCards

@@ -1,0 +1,71 @@
+-- `put_address_fields` meets its contract. The invariant: laying all offsets is laying those left, from the place now.
+use mathlib.Core.Path.{_≡_, sym, ap, _∙_, refl}
+use borrow.Author.Needs.{needs}
+use native.Mathlib.Omega.{arith}
+use lib.Seq.{sets}
+use lib.ListN.{length, length-set}
+use native.Mathlib.Nat.{add-zero, sub-zero}
+use Prim.Native.Nat.{_+_, _-_, _*_, _≤_}
+use Rattle.encode.specs.Steps.{twoApart}
+use Rattle.encode.proofs.Steps.{address-fields, apart-more, apart-done}
+use Rattle.encode.proofs.put_address_fields.Statement.{statement}
+use Rattle.encode.proofs.put_address_fields.Tie as tie
+
+abbrev Inv-loop : tie.InvT-loop
+Inv-loop copies size m₀ to count i₀ m i = (to + count ≤ length m₀) × (2 * count ≤ 256) × (length m ≡ length m₀) × (sets m₀ to (twoApart count 0) ≡ sets m (to + i) (twoApart (count - i) (2 * i)))
+
+abbrev μ-loop : tie.MeasureT-loop
+μ-loop copies size m₀ to count i₀ m i = count - i
+
+address-count-requires : tie.Need-address-count-requires Inv-loop μ-loop
+address-count-requires c κs = search needs
+
+loop-holds : tie.Need-loop-holds Inv-loop μ-loop
+loop-holds c = let e = c .address-count .ensures in let p = c .before .before .pre in (omega arith, omega arith, refl, rw (add-zero, sub-zero))
+
+mul-m : tie.Need-mul-m Inv-loop μ-loop
+mul-m c = omega arith
+
+cast-m : tie.Need-cast-m Inv-loop μ-loop
+cast-m c = omega arith
+
+add-m : tie.Need-add-m Inv-loop μ-loop
+add-m c = omega arith
+
+slice-write-m : tie.Need-slice-write-m Inv-loop μ-loop
+slice-write-m c = omega arith
+
+add-i : tie.Need-add-i Inv-loop μ-loop
+add-i c = omega arith
+
+loop-less : tie.Need-loop-less Inv-loop μ-loop
+loop-less c = omega arith
+
+loop-again : tie.Need-loop-again Inv-loop μ-loop
+loop-again c = let l = c .before .loop in (l .inv .0, l .inv .1, simp length-set (l .inv .2), l .inv .3 ∙ apart-more (l .m) (c .before .before .before .before .args .to) (l .i) (c .before .before .address-count .result) (c .loop-test .taken))
+
+same-length : tie.Need-same-length Inv-loop μ-loop
+same-length c = c .before .loop .inv .2
+
+returns : tie.Need-returns Inv-loop μ-loop
+returns c =
+    let a = c .before .before .before .before .args in let l = c .before .loop in let n = c .before .before .address-count in
+    sym (ap (sets (a .m .now) (a .to)) (address-fields (a .copies) (a .size) (a .v) 0 ∙ ap (λ k. twoApart k 0) (sym (n .ensures))) ∙ l .inv .3 ∙ apart-done (l .m) _ (l .i) (n .result) _ (omega arith))
+
+pub put-address-fields-spec : {M : Type 1} → statement M
+put-address-fields-spec =
+    tie.close
+    (tie.spec
+    Inv-loop
+    μ-loop
+    address-count-requires
+    loop-holds
+    mul-m
+    cast-m
+    add-m
+    slice-write-m
+    add-i
+    loop-less
+    loop-again
+    same-length
+    returns)
