@@ -34,6 +34,7 @@ use Rattle.encode.specs.Pieces.Piece.{plain}
 use Rattle.lines.specs.declared.Line.{Line}
 use Rattle.lines.specs.declared.Reading.the-variants.{Statement}
 use Rattle.lines.specs.Lines.{readingOf, operandIn, shapeNo}
+use Rattle.lines.proofs.Laws.{line-shape}
 use Rattle.passes.specs.declared.Role.{Role}
 use Rattle.passes.specs.declared.Role.the-variants.{Starts, Equates, SetsCounter, Ends, Makes}
 use Rattle.passes.specs.Cards.{roleOf, operandsAt, counterBy, counterAfter, placeNamed, nameValueBy, nameValue}
@@ -42,7 +43,7 @@ use Rattle.passes.specs.Two.{constantPieces, shapePieces, linePieces}
 use Rattle.theorems.specs.Raised.{raisedOperands, raisedBase, raisedBases, raisedPiece}
 use Rattle.theorems.proofs.RaisedOperands.{operands-raised}
 use Rattle.theorems.proofs.RaisedStatements.{value-in-raised, absolute-in, relocatable-in, lone-raised, pieces-raised}
-use Rattle.theorems.proofs.Lines.{line-shape, last-has, pair-has}
+use Rattle.theorems.proofs.Lines.{last-has, pair-has}
 
 -- refusals 18 to 20 are those of EQU and ORG again
 pub early-none : (r : Role) (op : Operation) (x : Operands) → expressionsNo op x ≡ 0 → earlyBy r op x ≡ 0

@@ -23,6 +23,7 @@ use Rattle.lines.specs.declared.Line.{Line}
 use Rattle.lines.specs.declared.Reading.{Reading}
 use Rattle.lines.specs.declared.Reading.the-variants.{Comment, BadName, Statement}
 use Rattle.lines.specs.Lines.{readingOf, operandIn}
+use Rattle.lines.proofs.Laws.{line-shape}
 use Rattle.passes.specs.declared.Role.{Role}
 use Rattle.passes.specs.declared.Phase.the-variants.{Before, Within}
 use Rattle.passes.specs.declared.Course.{Course}
@@ -34,7 +35,7 @@ use Rattle.passes.specs.Two.{outset, stepTwo, checkTwo, shapePieces, linePieces
 use Rattle.passes.proofs.Turns.{pass-turn, check-turn}
 use Rattle.passes.proofs.Fine.{fine, one-zero}
 use Rattle.theorems.specs.Moved.{Starting}
-use Rattle.theorems.proofs.Lines.{line-shape, start-has}
+use Rattle.theorems.proofs.Lines.{start-has}
 use Rattle.theorems.proofs.RaisedOne.{Begun, Usual, AllUsual, pass-usual}
 
 -- every card is a comment
