@@ -51,7 +51,7 @@ module _ (width : ℕ) (source work out : List ℕ) where
     -- 1, 2 and 3
     atOnce : (number : ℕ) → 1 ≤ number → number ≤ 3 → assembling width source work out ≡ refusedAtOnce number work out → Way
     -- a card is refused, or END is missing
-    byCards : workSize ≤ length work → (number card : ℕ) → assembled (cardsOf width source) ≡ refused number card
+    byCards : workSize ≤ length work → length (cardsOf width source) ≤ 4000 → (number card : ℕ) → assembled (cardsOf width source) ≡ refused number card
         → assembling width source work out ≡ record { answer = Refused number card; work = zeroed workSize work; out = out } → Way
     -- 30
     tooLong : workSize ≤ length work → (names : ℕ) (book : Book) → assembled (cardsOf width source) ≡ made names book → length out < length (bookBytes book)
@@ -76,7 +76,7 @@ module _ (width : ℕ) (source work out : List ℕ) where
       third : workSize ≤ length work → sourceNo width (length source) ≡ 0 → assembling width source work out ≡ outcomeOf (assembled (cardsOf width source)) (zeroed workSize work) out
           → (r : Result) → assembled (cardsOf width source) ≡ r → Way
       third w e f (made names book) g = space w names book e g (f ∙ ap (λ x. outcomeOf x (zeroed workSize work) out) g)
-      third w e f (refused number card) g = byCards w number card g (f ∙ ap (λ x. outcomeOf x (zeroed workSize work) out) g)
+      third w e f (refused number card) g = byCards w (cards-few width source e) number card g (f ∙ ap (λ x. outcomeOf x (zeroed workSize work) out) g)
 
       second : eqb (sourceNo width (length source)) 0 ≡ true → (b : Bool) → ltb (length work) workSize ≡ b → Way
       second e true f = atOnce 3 (omega arith) (omega arith) (rw (e, f))

@@ -212,7 +212,7 @@ module _ (width : ℕ) (source work out : List ℕ) (bytes names : ℕ) (h : ass
       go : Way width source work out → (b : Book) × (assembled (cardsOf width source) ≡ made names b) × (take bytes (assembling width source work out .out) ≡ bookBytes b)
           × (bookOf (take bytes (assembling width source work out .out)) ≡ some b)
       go (atOnce number l u e) = absurd (other number 0 work out e)
-      go (byCards w number card f e) = absurd (other number card (zeroed workSize work) out e)
+      go (byCards w few number card f e) = absurd (other number card (zeroed workSize work) out e)
       go (tooLong w n b f l e) = absurd (other 30 0 (zeroed workSize work) out e)
       go (whole w n b few f l e) =
           let size : bytes ≡ length (bookBytes b) = cc in
