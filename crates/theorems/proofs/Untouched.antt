@@ -66,7 +66,7 @@ module _ (width : ℕ) (source work out : List ℕ) where
     where
       go : Way width source work out → after .out ≡ out
       go (atOnce n l u e) = ap (λ (x : Outcome). x .out) e
-      go (byCards w n k f e) = ap (λ (x : Outcome). x .out) e
+      go (byCards w few n k f e) = ap (λ (x : Outcome). x .out) e
       go (tooLong w n b f l e) = ap (λ (x : Outcome). x .out) e
       go (whole w n b few f l e) = let z : _≡_ {A = ℕ} 0 1 = cc in absurd (omega arith)
 
@@ -76,7 +76,7 @@ module _ (width : ℕ) (source work out : List ℕ) where
     where
       go : Way width source work out → drop bytes (after .out) ≡ drop bytes out
       go (atOnce n l u e) = let z : _≡_ {A = ℕ} 0 1 = cc in absurd (omega arith)
-      go (byCards w n k f e) = let z : _≡_ {A = ℕ} 0 1 = cc in absurd (omega arith)
+      go (byCards w few n k f e) = let z : _≡_ {A = ℕ} 0 1 = cc in absurd (omega arith)
       go (tooLong w n b f l e) = let z : _≡_ {A = ℕ} 0 1 = cc in absurd (omega arith)
       go (whole w n b few f l e) =
           let size : bytes ≡ length (bookBytes b) = cc in
@@ -88,7 +88,7 @@ module _ (width : ℕ) (source work out : List ℕ) where
     where
       go : Way width source work out → length (after .out) ≡ length out
       go (atOnce n l u e) = ap (λ (x : Outcome). length (x .out)) e
-      go (byCards w n k f e) = ap (λ (x : Outcome). length (x .out)) e
+      go (byCards w few n k f e) = ap (λ (x : Outcome). length (x .out)) e
       go (tooLong w n b f l e) = ap (λ (x : Outcome). length (x .out)) e
       go (whole w n b few f l e) = ap (λ (x : Outcome). length (x .out)) e ∙ length-sets out 0 (bookBytes b)
 
@@ -98,7 +98,7 @@ module _ (width : ℕ) (source work out : List ℕ) where
     where
       go : Way width source work out → after .work ≡ work
       go (atOnce n l u e) = ap (λ (x : Outcome). x .work) e
-      go (byCards w n k f e) =
+      go (byCards w few n k f e) =
           let is : n ≡ number = cc in
           let high = cards-number (cardsOf width source) n k f .0 in
           absurd (omega arith)
@@ -111,7 +111,7 @@ module _ (width : ℕ) (source work out : List ℕ) where
     where
       go : Way width source work out → getD (after .work) i x ≡ 0
       go (atOnce n l u e) = let high = late n 0 (ap (λ (x : Outcome). x .answer) e) in absurd (omega arith)
-      go (byCards w n k f e) = ap (λ (o : Outcome). getD (o .work) i x) e ∙ zeroed-front workSize work i x h
+      go (byCards w few n k f e) = ap (λ (o : Outcome). getD (o .work) i x) e ∙ zeroed-front workSize work i x h
       go (tooLong w n b f l e) = ap (λ (o : Outcome). getD (o .work) i x) e ∙ zeroed-front workSize work i x h
       go (whole w n b few f l e) = ap (λ (o : Outcome). getD (o .work) i x) e ∙ zeroed-front workSize work i x h
 
@@ -121,7 +121,7 @@ module _ (width : ℕ) (source work out : List ℕ) where
     where
       go : Way width source work out → drop workSize (after .work) ≡ drop workSize work
       go (atOnce n l u e) = ap (λ (x : Outcome). drop workSize (x .work)) e
-      go (byCards w n k f e) = ap (λ (x : Outcome). drop workSize (x .work)) e ∙ zeroed-beyond workSize work
+      go (byCards w few n k f e) = ap (λ (x : Outcome). drop workSize (x .work)) e ∙ zeroed-beyond workSize work
       go (tooLong w n b f l e) = ap (λ (x : Outcome). drop workSize (x .work)) e ∙ zeroed-beyond workSize work
       go (whole w n b few f l e) = ap (λ (x : Outcome). drop workSize (x .work)) e ∙ zeroed-beyond workSize work
 
@@ -130,7 +130,7 @@ module _ (width : ℕ) (source work out : List ℕ) where
     where
       go : Way width source work out → length (after .work) ≡ length work
       go (atOnce n l u e) = ap (λ (x : Outcome). length (x .work)) e
-      go (byCards w n k f e) = ap (λ (x : Outcome). length (x .work)) e ∙ zeroed-length workSize work w
+      go (byCards w few n k f e) = ap (λ (x : Outcome). length (x .work)) e ∙ zeroed-length workSize work w
       go (tooLong w n b f l e) = ap (λ (x : Outcome). length (x .work)) e ∙ zeroed-length workSize work w
       go (whole w n b few f l e) = ap (λ (x : Outcome). length (x .work)) e ∙ zeroed-length workSize work w
 
@@ -145,7 +145,7 @@ module _ (width : ℕ) (source work out : List ℕ) where
           let is : n ≡ number = cc in
           let at : card ≡ 0 = cc in
           inl (omega arith, omega arith, at)
-      go (byCards w n k f e) =
+      go (byCards w few n k f e) =
           let is : n ≡ number = cc in
           let at : k ≡ card = cc in
           let r = cards-number (cardsOf width source) n k f in
