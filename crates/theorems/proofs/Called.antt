@@ -7,12 +7,13 @@ use native.Mathlib.Omega.{arith}
 use lib.ListN.{length}
 use lib.Dec.{ltb, leb, eqb}
 use lib.Seq.{sets}
-use borrow.Author.Tests.{eqb-true, eqb-false, leb-true, ltb-true, ltb-false}
+use borrow.Author.Tests.{eqb-true, eqb-false, ltb-true, ltb-false}
 use Rattle.values.specs.Tests.{pick}
 use Rattle.names.specs.Table.{zeroed}
 use Rattle.book.specs.Book.{Book}
 use Rattle.book.specs.Writing.{bookBytes}
 use Rattle.cards.specs.Source.{isWidth, sourceNo, cardsFrom, cardsOf}
+use Rattle.cards.proofs.Whole.{source-whole}
 use Rattle.passes.specs.declared.Assembled.the-variants.{Made, Refused}
 use Rattle.passes.specs.Assembly.{Result, assembled, workSize, refusedAtOnce, written, outcomeOf, assembling}
 use Rattle.passes.specs.Assembly.Result.{made, refused}
@@ -24,7 +25,7 @@ unfolding cardsFrom
 cards-length zero width s at = refl
 cards-length (suc n) width s at = ap suc (cards-length n width s _)
 
--- 1 and 2 are all that a source can be refused for at once; where it is not, it has at most 4,000 cards
+-- 1 and 2 are all that a source can be refused for at once
 source-numbers : (width size : ℕ) → sourceNo width size ≤ 2
 unfolding sourceNo
 source-numbers width size = go (isWidth width) (eqb (size % width) 0) (leb (size / width) 4000)
@@ -35,20 +36,11 @@ source-numbers width size = go (isWidth width) (eqb (size % width) 0) (leb (size
     go true false z = omega arith
     go false y z = omega arith
 
-few-cards : (width size : ℕ) → sourceNo width size ≡ 0 → size / width ≤ 4000
-unfolding sourceNo
-few-cards width size e = go (isWidth width) (eqb (size % width) 0) (leb (size / width) 4000) refl e
-  where
-    go : (x y z : Bool) → leb (size / width) 4000 ≡ z → pick {X = ℕ} x (pick y (pick z 0 2) 1) 1 ≡ 0 → size / width ≤ 4000
-    go true true true h e = leb-true (size / width) 4000 h
-    go true true false h e = absurd (omega arith)
-    go true false z h e = absurd (omega arith)
-    go false y z h e = absurd (omega arith)
-
+-- "at most 4,000"
 pub cards-few : (width : ℕ) (source : List ℕ) → sourceNo width (length source) ≡ 0 → length (cardsOf width source) ≤ 4000
 unfolding cardsOf
 cards-few width source e =
-    let few = few-cards width (length source) e in
+    let few = source-whole width (length source) e .few in
     let many = cards-length (length source / width) width source 0 in
     omega arith
 
@@ -59,13 +51,13 @@ module _ (width : ℕ) (source work out : List ℕ) where
     -- 1, 2 and 3
     atOnce : (number : ℕ) → 1 ≤ number → number ≤ 3 → assembling width source work out ≡ refusedAtOnce number work out → Way
     -- a card is refused, or END is missing
-    byCards : (number card : ℕ) → assembled (cardsOf width source) ≡ refused number card
+    byCards : workSize ≤ length work → length (cardsOf width source) ≤ 4000 → (number card : ℕ) → assembled (cardsOf width source) ≡ refused number card
         → assembling width source work out ≡ record { answer = Refused number card; work = zeroed workSize work; out = out } → Way
     -- 30
-    tooLong : (names : ℕ) (book : Book) → assembled (cardsOf width source) ≡ made names book → length out < length (bookBytes book)
+    tooLong : workSize ≤ length work → (names : ℕ) (book : Book) → assembled (cardsOf width source) ≡ made names book → length out < length (bookBytes book)
         → assembling width source work out ≡ record { answer = Refused 30 0; work = zeroed workSize work; out = out } → Way
     -- accepted
-    whole : (names : ℕ) (book : Book) → length (cardsOf width source) ≤ 4000 → assembled (cardsOf width source) ≡ made names book
+    whole : workSize ≤ length work → (names : ℕ) (book : Book) → length (cardsOf width source) ≤ 4000 → assembled (cardsOf width source) ≡ made names book
         → length (bookBytes book) ≤ length out
         → assembling width source work out ≡ record { answer = Made (length (bookBytes book)) names; work = zeroed workSize work; out = sets out 0 (bookBytes book) } → Way
 
@@ -73,22 +65,22 @@ module _ (width : ℕ) (source work out : List ℕ) where
   unfolding assembling
   way = first (eqb (sourceNo width (length source)) 0) refl
     where
-      space : (names : ℕ) (book : Book) → sourceNo width (length source) ≡ 0 → assembled (cardsOf width source) ≡ made names book
+      space : workSize ≤ length work → (names : ℕ) (book : Book) → sourceNo width (length source) ≡ 0 → assembled (cardsOf width source) ≡ made names book
           → assembling width source work out ≡ written names (bookBytes book) (zeroed workSize work) out → Way
-      space names book e f g = go (ltb (length out) (length (bookBytes book))) refl
+      space w names book e f g = go (ltb (length out) (length (bookBytes book))) refl
         where
           go : (b : Bool) → ltb (length out) (length (bookBytes book)) ≡ b → Way
-          go true h = tooLong names book f (ltb-true (length out) (length (bookBytes book)) h) (g ∙ rw h)
-          go false h = whole names book (cards-few width source e) f (ltb-false (length out) (length (bookBytes book)) h) (g ∙ rw h)
+          go true h = tooLong w names book f (ltb-true (length out) (length (bookBytes book)) h) (g ∙ rw h)
+          go false h = whole w names book (cards-few width source e) f (ltb-false (length out) (length (bookBytes book)) h) (g ∙ rw h)
 
-      third : sourceNo width (length source) ≡ 0 → assembling width source work out ≡ outcomeOf (assembled (cardsOf width source)) (zeroed workSize work) out
+      third : workSize ≤ length work → sourceNo width (length source) ≡ 0 → assembling width source work out ≡ outcomeOf (assembled (cardsOf width source)) (zeroed workSize work) out
           → (r : Result) → assembled (cardsOf width source) ≡ r → Way
-      third e f (made names book) g = space names book e g (f ∙ ap (λ x. outcomeOf x (zeroed workSize work) out) g)
-      third e f (refused number card) g = byCards number card g (f ∙ ap (λ x. outcomeOf x (zeroed workSize work) out) g)
+      third w e f (made names book) g = space w names book e g (f ∙ ap (λ x. outcomeOf x (zeroed workSize work) out) g)
+      third w e f (refused number card) g = byCards w (cards-few width source e) number card g (f ∙ ap (λ x. outcomeOf x (zeroed workSize work) out) g)
 
       second : eqb (sourceNo width (length source)) 0 ≡ true → (b : Bool) → ltb (length work) workSize ≡ b → Way
       second e true f = atOnce 3 (omega arith) (omega arith) (rw (e, f))
-      second e false f = third (eqb-true (sourceNo width (length source)) 0 e) (rw (e, f)) (assembled (cardsOf width source)) refl
+      second e false f = third (ltb-false (length work) workSize f) (eqb-true (sourceNo width (length source)) 0 e) (rw (e, f)) (assembled (cardsOf width source)) refl
 
       first : (b : Bool) → eqb (sourceNo width (length source)) 0 ≡ b → Way
       first true e = second e (ltb (length work) workSize) refl

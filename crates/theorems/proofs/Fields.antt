@@ -1,7 +1,7 @@
 -- FIELDS. "count of relocatable fields .. their offsets, ascending": for every card of an accepted source the list holds exactly the places of its two-byte values
 -- that are relocatable, each once ("Empty field lists satisfy "no other place" but not "each once""); every other byte of its text stays what it is.
 use Prim.Native.Nat.{ℕ, zero, suc, _+_, _≤_, _<_}
-use mathlib.Core.List.{List, [], _∷_, _++_, List·Memᴰ, List·Memᴰ·cases-cons, List·Memᴰ·not-nil, Memᴰ·cast}
+use mathlib.Core.List.{List, [], _∷_, _++_, map, List·Memᴰ, List·Memᴰ·cases-cons, List·Memᴰ·not-nil, Memᴰ·cast}
 use mathlib.Core.List.List·Memᴰ.{List·Memᴰ·head, List·Memᴰ·tail}
 use mathlib.Core.Bool.{true}
 use mathlib.Core.Path.{_≡_, refl, sym, ap, _∙_, subst}
@@ -30,6 +30,8 @@ use Rattle.passes.proofs.Turns.{pass-turn}
 use Rattle.theorems.specs.Grow.{behindTwo, namesBy, lookIn, counterOne, counterTwo}
 use Rattle.theorems.specs.Readable.{makes}
 use Rattle.theorems.specs.Fields.{piecesAt, recordAt, Starts, Apart}
+use Rattle.theorems.specs.Raised.{raisedPiece}
+use Rattle.theorems.proofs.RaisedText.{moved-pieces}
 use Rattle.theorems.proofs.Grow.{same-counters}
 use Rattle.theorems.proofs.Texts.{card-makes, fields-fit, some-text}
 use Rattle.theorems.proofs.Made.{Both, both-passed}
@@ -109,6 +111,10 @@ moved-other d was (o ∷ os) t i apart =
 
 pub other-bytes : (d : ℕ) (r : Record) (i : ℕ) → Apart i (r .fields) → getD (movedText d r) i 0 ≡ getD (r .text) i 0
 other-bytes d r i apart = moved-other d (r .text) (r .fields) (r .text) i apart
+
+-- .. and where every value among the pieces is raised by d, a plain byte and an absolute value keep their bytes
+pub raised-other : (d : ℕ) (ps : List Piece) (i : ℕ) → Apart i (fieldsOf ps) → getD (textOf (map (raisedPiece d) ps)) i 0 ≡ getD (textOf ps) i 0
+raised-other d ps i apart = ap (λ t. getD t i 0) (sym (moved-pieces d ps)) ∙ moved-other d (textOf ps) (fieldsOf ps) (textOf ps) i apart
 
 -- THE RECORDS OF THE CARDS
 

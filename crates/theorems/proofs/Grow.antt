@@ -13,7 +13,7 @@ use Rattle.expressions.specs.declared.Wanted.{Wanted}
 use Rattle.expressions.specs.declared.Wanted.the-variants.{Any, OnlyRelocatable}
 use Rattle.expressions.specs.Form.{expressionAt}
 use Rattle.expressions.specs.Value.{evaluated, refusalFor, valueIn}
-use Rattle.expressions.proofs.Laws.{accepted, value-fits}
+use Rattle.expressions.proofs.Laws.{accepted}
 use Rattle.operations.specs.declared.Operation.{Operation}
 use Rattle.operations.specs.declared.Operation.the-variants.{Unknown, Start, Equ, Org, Dc, Ds, Using, Drop, End, Decimal, Characters, Move, MoveOf, OneAddress, Branch, LoadAddress, BranchOn, Jump, JumpOn}
 use Rattle.data.specs.declared.DataType.{DataType}
@@ -21,7 +21,6 @@ use Rattle.data.specs.declared.DataType.the-variants.{Characters as CharacterDa
 use Rattle.forms.specs.declared.Shape.{Shape}
 use Rattle.forms.specs.declared.Shape.the-variants.{Fails, Nothing, StartAt, Expression, Pair, Target, Two, One, Only, Constant, Reserve}
 use Rattle.forms.specs.Shape.{shapeOf}
-use Rattle.forms.proofs.Laws.{ShapeIn, shape-in}
 use Rattle.statements.specs.declared.operands.Operands.{Operands}
 use Rattle.statements.specs.declared.places.Bases.{Bases}
 use Rattle.statements.specs.Operands.{constantBy, operandsOf}
@@ -33,17 +32,19 @@ use Rattle.lines.specs.declared.Line.{Line}
 use Rattle.lines.specs.declared.Reading.{Reading}
 use Rattle.lines.specs.declared.Reading.the-variants.{Comment, BadName, Statement}
 use Rattle.lines.specs.Lines.{readingOf, operandIn, shapeNo}
+use Rattle.lines.proofs.Laws.{line-shape}
 use Rattle.passes.specs.declared.Role.{Role}
 use Rattle.passes.specs.declared.Role.the-variants.{Starts, Equates, SetsCounter, Ends, Makes}
 use Rattle.passes.specs.declared.Course.{Course}
-use Rattle.passes.specs.Cards.{roleOf, startValue, operandsAt, counterBy, counterAfter}
+use Rattle.passes.specs.Cards.{roleOf, operandsAt, counterBy, counterAfter}
 use Rattle.passes.specs.One.{State, fresh, earlyBy, earlyNo, readingNo, oneNo, readingStep, stepOne, passOne}
 use Rattle.passes.specs.One.Passed.{through}
 use Rattle.passes.specs.Two.{outset, readingTwoNo, twoNo, readingTwoStep, stepTwo, checkTwo}
 use Rattle.passes.proofs.Turns.{pass-turn}
+use Rattle.passes.proofs.Counter.{counter-most}
 use Rattle.passes.proofs.Fine.{Fine, fine, one-zero}
 use Rattle.theorems.specs.Grow.{Keeps, behindOne, behindTwo, namesBy, counterOne, counterTwo, readingSize, cardSize, unlessSeen, readingUnseen, unseenNo, checkUnseen}
-use Rattle.theorems.proofs.Lines.{line-shape, equ-shape, org-shape}
+use Rattle.theorems.proofs.Lines.{equ-shape, org-shape}
 use Rattle.theorems.proofs.Kept.{value-kept, names-grow}
 
 -- A LINE
@@ -167,60 +168,14 @@ module _ (st : State) (more : ℕ → Entry) (keeps : Keeps (find (st .names)) m
 
 -- THE COUNTER is at most 65536
 
-start-low : (o : List ℕ) (x : Shape) → ShapeIn o x → startValue x ≤ 65535
-start-low o (Fails q) h = omega arith
-start-low o Nothing h = omega arith
-start-low o (StartAt v) h = omega arith
-start-low o Expression h = omega arith
-start-low o (Pair p) h = omega arith
-start-low o Target h = omega arith
-start-low o (Two a b) h = omega arith
-start-low o (One a p) h = omega arith
-start-low o (Only a) h = omega arith
-start-low o (Constant d) h = omega arith
-start-low o (Reserve d) h = omega arith
-
--- a card's only expression has a value of at most 65535
-pub lone-low : (look : ℕ → Entry) (here : ℕ) (o : List ℕ) (x : Shape) → amountOf (loneValue (operandsOf look here o x)) ≤ 65535
-unfolding operandsOf
-lone-low look here o (Fails q) = omega arith
-lone-low look here o Nothing = omega arith
-lone-low look here o (StartAt v) = omega arith
-lone-low look here o Expression = omega (arith, value-fits look here (expressionAt o 0))
-lone-low look here o (Pair p) = omega arith
-lone-low look here o Target = omega (arith, value-fits look here (expressionAt o 0))
-lone-low look here o (Two a b) = omega arith
-lone-low look here o (One a p) = omega arith
-lone-low look here o (Only a) = omega arith
-lone-low look here o (Constant d) = go (d .kind)
-  where
-    go : (k : DataType) → amountOf (loneValue (constantBy k (Operands.Addresses (d .copies) (d .length) (evaluated look here (expressionAt o (d .value)))))) ≤ 65535
-    go CharacterData = omega arith
-    go Hexadecimal = omega arith
-    go DecimalData = omega arith
-    go Address = omega arith
-lone-low look here o (Reserve d) = omega arith
-
 pub step-low : (st : State) (s : List ℕ) → oneNo st s ≡ 0 → st .counter ≤ 65536 → stepOne st s .counter ≤ 65536
-unfolding stepOne counterAfter
+unfolding stepOne
 step-low st s e low = go (readingOf s) refl (one-zero st s e .2)
   where
-    line : (l : Line) → readingOf s ≡ Statement l → Fine st s l → counterBy (roleOf (l .operation)) (operandsAt (find (st .names)) (st .counter) s l) (st .counter) l ≤ 65536
-    line l q f = by (roleOf (l .operation))
-      where
-        by : (r : Role) → counterBy r (operandsAt (find (st .names)) (st .counter) s l) (st .counter) l ≤ 65536
-        by Starts =
-            let i : ShapeIn (operandIn s l) (l .shape) = rw (line-shape s l q) (shape-in (l .operation) (operandIn s l)) in
-            omega (arith, start-low (operandIn s l) (l .shape) i)
-        by Equates = low
-        by SetsCounter = omega (arith, lone-low (find (st .names)) (st .counter) (operandIn s l) (l .shape))
-        by Ends = low
-        by Makes = f .room
-
     go : (x : Reading) → readingOf s ≡ x → readingNo st s x ≡ 0 → readingStep st s x .counter ≤ 65536
     go Comment q h = low
     go BadName q h = low
-    go (Statement l) q h = line l q (fine st s l h)
+    go (Statement l) q h = counter-most (find (st .names)) (st .counter) s l q 65536 (omega arith) (fine st s l h .room)
 
 -- ALL CARDS
 

@@ -6,12 +6,14 @@ mod Kept
 pub mod Grow
 mod Texts
 mod Made
+mod Numbers
 mod Stores
 mod Called
 mod Loads
 pub mod Readable
 pub mod Sums
 pub mod Fields
+pub mod Untouched
 mod RaisedOperands
 mod RaisedStatements
 mod RaisedCards
@@ -22,3 +24,5 @@ mod RaisedLoad
 mod RaisedTwo
 mod Started
 pub mod Moved
+pub mod Demand3
+pub mod Sample

@@ -1,4 +1,4 @@
--- What is known of the line of a card: its shape is its operation's, and which shapes an operation has.
+-- Which shapes the operand of an operation has, and so a line.
 use Prim.{Unit, tt}
 use Prim.Native.Nat.{ℕ, _+_}
 use mathlib.Core.List.{List}
@@ -8,9 +8,6 @@ use native.Mathlib.Omega.{arith}
 use lib.ListN.{length}
 use lib.Dec.{ltb, eqb}
 use Rattle.values.specs.Tests.{pick}
-use Rattle.cards.specs.declared.Card.{Card}
-use Rattle.cards.specs.declared.Card.the-variants.{Comment as CardComment, BadName as CardBadName, Statement as CardStatement}
-use Rattle.cards.specs.Fields.{cardOf}
 use Rattle.terms.specs.declared.Term.{Term}
 use Rattle.terms.specs.declared.Term.the-variants.{Number, Symbol, Here, Bad}
 use Rattle.terms.specs.Terms.{stands}
@@ -38,19 +35,10 @@ use Rattle.forms.specs.Shape.{ended, behindForm, behindAddressed, behindComma, 
 use Rattle.statements.specs.declared.places.Use.{Use}
 use Rattle.statements.specs.declared.places.Use.the-variants.{Jumps, Registers, Nothing as NoUse}
 use Rattle.statements.specs.Places.{useOf}
+use Rattle.lines.proofs.Laws.{line-shape}
 use Rattle.lines.specs.declared.Line.{Line}
 use Rattle.lines.specs.declared.Reading.the-variants.{Statement}
-use Rattle.lines.specs.Lines.{lineOf, readingFrom, readingOf, operandIn, shapeNo}
-
--- the shape of a line is that of its operation's operand
-pub line-shape : (s : List ℕ) (l : Line) → readingOf s ≡ Statement l → l .shape ≡ shapeOf (l .operation) (operandIn s l)
-unfolding readingOf lineOf
-line-shape s l e = go (cardOf s) e
-  where
-    go : (c : Card) → readingFrom s c ≡ Statement l → l .shape ≡ shapeOf (l .operation) (operandIn s l)
-    go CardComment e = let z : _≡_ {A = ℕ} 0 1 = cc in absurd (omega arith)
-    go CardBadName e = let z : _≡_ {A = ℕ} 0 1 = cc in absurd (omega arith)
-    go (CardStatement f) e = let same : l ≡ lineOf s f = cc in rw same
+use Rattle.lines.specs.Lines.{readingOf, operandIn, shapeNo}
 
 -- WHICH SHAPES AN OPERATION HAS. P holds of every refusal's shape
 

@@ -1,12 +1,14 @@
 -- The ways a load can go: "Loading: 50, 51, 52, each over the whole book before the next".
-use Prim.Native.Nat.{ℕ}
-use mathlib.Core.List.{List}
+use Prim.Native.Nat.{ℕ, zero, suc}
+use mathlib.Core.List.{List, [], _∷_}
 use mathlib.Core.Bool.{Bool, true, false}
 use mathlib.Core.Option.{Option, none, some}
 use mathlib.Core.Path.{_≡_, refl, ap, _∙_}
 use native.Mathlib.Omega.{arith}
+use lib.ListN.{length}
 use lib.Dec.{eqb}
 use borrow.Author.Tests.{eqb-true, le-leb}
+use Rattle.values.specs.Tests.{pick}
 use Rattle.values.specs.Values.{movedBy}
 use Rattle.values.specs.declared.Displacement.{Displacement}
 use Rattle.values.specs.declared.Relocatable.{Relocatable}
@@ -15,8 +17,10 @@ use Rattle.values.specs.declared.Moved.the-variants.{To, Over as MovedOver}
 use Rattle.values.proofs.Sums.{moved-to}
 use Rattle.book.specs.declared.Entry.{Entry}
 use Rattle.book.specs.declared.Entry.the-variants.{Absent, At}
-use Rattle.book.specs.Book.{Book, bookOf}
-use Rattle.book.specs.Writing.{entryFits}
+use Rattle.book.specs.Book.{Record, Book, fair, recordOk, cardAt, nextAt, recordAt, onto, recordsFrom, headerOk, entryAt, withEntry, bookOf}
+use Rattle.book.specs.Writing.{entryFits, fairAll}
+use Rattle.book.proofs.Laws.{Fair, fair-is, is-fair, whole-is}
+use Rattle.values.proofs.Laws.{both-true}
 use Rattle.fields.specs.Fields.{overField}
 use Rattle.load.specs.declared.Loaded.the-variants.{Broken, Outside, Over}
 use Rattle.load.specs.Load.{firstCard, outside, roomIn, entered, enteredAt, refused, accepted, judged, ofBook, loading}
@@ -68,3 +72,32 @@ module _ (s : List ℕ) (d : Displacement) (m : List ℕ) where
       first : (x : Option Book) → bookOf s ≡ x → Load
       first none f = isBroken f (ap (λ x. ofBook x d m) f)
       first (some b) f = book b f (ap (λ x. ofBook x d m) f)
+
+-- A BOOK THAT WAS READ has fair records
+
+pub fair-first : (last : ℕ) (r : Record) (rs : List Record) → fairAll last (r ∷ rs) ≡ true → Fair last r × (fairAll (r .card) rs ≡ true)
+unfolding fairAll
+fair-first last r rs e = let (a, b) = both-true (fair last r) (fairAll (r .card) rs) e in (fair-is last r a, b)
+
+from-fair : (n : ℕ) (s : List ℕ) (at last : ℕ) (rs : List Record) → recordsFrom n s at last ≡ some rs → fairAll last rs ≡ true
+unfolding recordsFrom fairAll
+from-fair zero s at last rs h = let z : _≡_ {A = ℕ} 0 1 = cc in absurd (omega arith)
+from-fair (suc n) s at last rs h = go (eqb at (length s)) (recordOk s at last) refl (recordsFrom n s (nextAt s at) (cardAt s at)) (from-fair n s (nextAt s at) (cardAt s at)) h
+  where
+    go : (x y : Bool) → recordOk s at last ≡ y → (o : Option (List Record)) → ((qs : List Record) → o ≡ some qs → fairAll (cardAt s at) qs ≡ true)
+        → pick x (some []) (pick y (onto (recordAt s at) o) none) ≡ some rs → fairAll last rs ≡ true
+    go true y f o ih h = let e : [] ≡ rs = cc in rw (← e)
+    go false true f none ih h = let z : _≡_ {A = ℕ} 0 1 = cc in absurd (omega arith)
+    go false true f (some qs) ih h =
+        let e : recordAt s at ∷ qs ≡ rs = cc in
+        rw (← e) (rw (is-fair last (recordAt s at) (whole-is s at last f .is)) (ih qs refl))
+    go false false f o ih h = let z : _≡_ {A = ℕ} 0 1 = cc in absurd (omega arith)
+
+pub read-fair : (s : List ℕ) (b : Book) → bookOf s ≡ some b → fairAll 0 (b .records) ≡ true
+unfolding bookOf
+read-fair s b h = go (headerOk s) (recordsFrom (length s) s 8 0) refl h
+  where
+    go : (x : Bool) (o : Option (List Record)) → recordsFrom (length s) s 8 0 ≡ o → pick x (withEntry (entryAt s) o) none ≡ some b → fairAll 0 (b .records) ≡ true
+    go true none f h = let z : _≡_ {A = ℕ} 0 1 = cc in absurd (omega arith)
+    go true (some rs) f h = let e : rs ≡ b .records = cc in rw (← e) (from-fair (length s) s 8 0 rs f)
+    go false o f h = let z : _≡_ {A = ℕ} 0 1 = cc in absurd (omega arith)

@@ -3,88 +3,142 @@
 -- and loading the first by d and the second by 0 gives the same answer and the same storage, for every storage: 51 and 52 included, overlaid fields included.
 use Prim.{tt}
 use Prim.Native.Nat.{ℕ, _+_, _≤_}
-use mathlib.Core.List.{List, [], _∷_, _++_, map}
+use mathlib.Core.List.{List, [], _∷_, _++_, map, List·Memᴰ, Memᴰ·map}
 use mathlib.Core.Bool.{Bool, true, false}
 use mathlib.Core.Path.{_≡_, refl, sym, ap, _∙_, subst}
-use lib.ListN.{length, take, length-map}
+use native.Mathlib.Omega.{arith}
+use lib.ListN.{length, getD, length-append, length-map}
 use lib.Dec.{eqb}
 use Rattle.values.specs.Tests.{pick}
 use Rattle.values.specs.declared.Value.the-variants.{Relocatable}
 use Rattle.names.specs.declared.Name.{Name}
 use Rattle.names.specs.Names.{find}
 use Rattle.names.specs.Raised.{raisedName}
-use Rattle.operations.specs.declared.Operation.the-variants.{Start}
 use Rattle.book.specs.Book.{Record, Book}
 use Rattle.book.specs.Writing.{bookBytes, entryFits}
-use Rattle.lines.specs.declared.Line.{Line}
-use Rattle.lines.specs.declared.Reading.the-variants.{Statement}
-use Rattle.lines.specs.Lines.{readingOf}
 use Rattle.passes.specs.declared.Phase.the-variants.{Within}
 use Rattle.passes.specs.declared.Checked.the-variants.{Clean}
-use Rattle.passes.specs.Cards.{startValue}
 use Rattle.passes.specs.One.{State, fresh, passOne}
 use Rattle.passes.specs.One.Passed.{through}
-use Rattle.passes.specs.Two.{outset, stepTwo, checkTwo, recordsFrom, entryFrom, bookFrom}
+use Rattle.passes.specs.Two.{outset, checkTwo, recordsFrom, entryFrom, bookFrom}
 use Rattle.passes.specs.Assembly.{assembled}
 use Rattle.passes.specs.Assembly.Result.{made}
-use Rattle.passes.proofs.Turns.{pass-turn, check-turn}
 use Rattle.load.specs.Load.{judged, loading}
-use Rattle.theorems.specs.Moved.{raisedState, raisedCourse, raisedEntry, movedRecord, movedBook, Starting, SameButStart}
-use Rattle.theorems.proofs.Made.{Both, both-passed}
-use Rattle.theorems.proofs.Readable.{loaded-as-made, fair-entry}
+use Rattle.passes.proofs.Counter.{start-fits}
+use Rattle.theorems.specs.Fields.{Apart}
+use Rattle.theorems.specs.Raised.{raisedState}
+use Rattle.theorems.specs.Moved.{raisedEntry, movedRecord, movedBook, Starting, SameButStart}
+use Rattle.theorems.proofs.Made.{both-passed}
+use Rattle.theorems.proofs.Readable.{entry-fits, loaded-as-made}
+use Rattle.theorems.proofs.Fields.{other-bytes}
 use Rattle.theorems.proofs.RaisedOne.{AllUsual, pass-usual, pass-raised}
 use Rattle.theorems.proofs.RaisedTwo.{records-raised, entries-raised}
 use Rattle.theorems.proofs.RaisedLoad.{Raised, records-moved, judged-same}
 use Rattle.theorems.proofs.Started.{AllComments, behind, begunOne, begunTwo, only-comments, one-behind, two-behind, records-behind, entry-behind}
 
-module _ (d : ℕ) (name at : ℕ) where
-  begun-raised : begunOne name (at + d) ≡ raisedState d (begunOne name at)
-  begun-raised = ap (λ ns. record { counter = at + d; names = ns; phase = Within }) (go (eqb name 0))
-    where
-      x : ℕ → Name
-      x n = record { number = name; value = Relocatable (record { 0 = n }); length = 1 }
+begun-raised : (d name at : ℕ) → begunOne name (at + d) ≡ raisedState d (begunOne name at)
+begun-raised d name at = ap (λ ns. record { counter = at + d; names = ns; phase = Within }) (go (eqb name 0))
+  where
+    x : ℕ → Name
+    x n = record { number = name; value = Relocatable (record { 0 = n }); length = 1 }
 
-      go : (b : Bool) → pick b [] (x (at + d) ∷ []) ≡ map (raisedName d) (pick b [] (x at ∷ []))
-      go true = refl
-      go false = refl
+    go : (b : Bool) → pick b [] (x (at + d) ∷ []) ≡ map (raisedName d) (pick b [] (x at ∷ []))
+    go true = refl
+    go false = refl
 
--- the end of pass one, the records and the entry, from START lines on
-module _ (d : ℕ) (before after : List (List ℕ)) (s t : List ℕ) (l k : Line) (reads : readingOf s ≡ Statement l) (reads′ : readingOf t ≡ Statement k)
-    (is : l .operation ≡ Start) (is′ : k .operation ≡ Start) (name : k .name ≡ l .name) (value : startValue (k .shape) ≡ startValue (l .shape) + d)
+-- the ends of pass one, the records and the entries of two such decks
+module _ (d : ℕ) (before after : List (List ℕ)) (s t : List ℕ) (name at : ℕ) (starts : Starting s name at) (starts′ : Starting t name (at + d))
     (a e : State) (p : passOne 1 fresh (before ++ s ∷ after) ≡ through a) (q : passOne 1 fresh (before ++ t ∷ after) ≡ through e) where
-  comments : AllComments before
-  comments = only-comments s l reads is after before 1 a p
+  abbrev next : ℕ
+  next = behind 1 before + 1
 
-  from : passOne (behind 1 before + 1) (begunOne (l .name) (startValue (l .shape))) after ≡ through a
-  from = one-behind before after s l reads is comments a p
+  abbrev up : List Name
+  up = map (raisedName d) (a .names)
+
+  comments : AllComments before
+  comments = only-comments before s after name at starts a p
+
+  from : passOne next (begunOne name at) after ≡ through a
+  from = one-behind before s after name at starts comments a p
 
   end-raised : e ≡ raisedState d a
   end-raised =
-      let higher = one-behind before after t k reads′ is′ comments e q in
-      pass-raised d after (behind 1 before + 1) (begunOne (l .name) (startValue (l .shape))) a e tt from (rw (name, value, begun-raised d (l .name) (startValue (l .shape))) at higher)
+      pass-raised d after next (begunOne name at) a e tt from (rw (begun-raised d name at) at (one-behind before t after name (at + d) starts′ comments e q))
 
   usual : AllUsual after
-  usual = pass-usual after (behind 1 before + 1) (begunOne (l .name) (startValue (l .shape))) a tt from
+  usual = pass-usual after next (begunOne name at) a tt from
 
-  module _ (clean : checkTwo (find (a .names)) 1 outset (before ++ s ∷ after) ≡ Clean) (clean′ : checkTwo (find (e .names)) 1 outset (before ++ t ∷ after) ≡ Clean) where
-    abbrev up : List Name
-    up = map (raisedName d) (a .names)
+  deck-raised : checkTwo (find (a .names)) 1 outset (before ++ s ∷ after) ≡ Clean → checkTwo (find (e .names)) 1 outset (before ++ t ∷ after) ≡ Clean
+      → (e .names ≡ up) × (Raised d (recordsFrom (find (a .names)) 1 outset (before ++ s ∷ after)) (recordsFrom (find (e .names)) 1 outset (before ++ t ∷ after)))
+      × (entryFrom (find (e .names)) outset (before ++ t ∷ after) ≡ raisedEntry d (entryFrom (find (a .names)) outset (before ++ s ∷ after)))
+  deck-raised clean clean′ =
+      let names : e .names ≡ up = ap (λ (x : State). x .names) end-raised in
+      let lower = two-behind before s after name at starts comments (find (a .names)) clean in
+      let higher = rw names at (two-behind before t after name (at + d) starts′ comments (find (e .names)) clean′) in (
+        names,
+        rw (records-behind before s after name at starts comments (find (a .names)), records-behind before t after name (at + d) starts′ comments (find (e .names)), names)
+            (records-raised d (a .names) after next (begunTwo at) usual lower higher),
+        rw (entry-behind before s after name at starts comments (find (a .names)), entry-behind before t after name (at + d) starts′ comments (find (e .names)), names)
+            (entries-raised d (a .names) after next (begunTwo at) usual lower higher),
+      )
 
-    names : e .names ≡ up
-    names = ap (λ (x : State). x .names) end-raised
+-- "the displacement (unsigned, 16 bits)": d is one, since both values are
+pub displacement-fits : (d : ℕ) (ss ts : List (List ℕ)) → SameButStart d ss ts → d ≤ 65535
+displacement-fits d ss ts same =
+    let value = same .startsHigher .value in
+    let low = start-fits (same .second) (same .startsHigher .line) (same .startsHigher .reads) in
+    omega arith
 
-    lower : checkTwo (find (a .names)) (behind 1 before + 1) (begunTwo (startValue (l .shape))) after ≡ Clean
-    lower = two-behind before after s l reads is comments (a .names) clean
+-- THE THEOREM, of two such decks that are both accepted
+module _ (d : ℕ) (ss ts : List (List ℕ)) (same : SameButStart d ss ts) (n m : ℕ) (b c : Book) (accepted : assembled ss ≡ made n b) (accepted′ : assembled ts ≡ made m c) where
+  deck-books : (m ≡ n) × (Raised d (b .records) (c .records)) × (c .entry ≡ raisedEntry d (b .entry))
+  unfolding bookFrom
+  deck-books =
+      let x = both-passed ss n b accepted in
+      let y = both-passed ts m c accepted′ in
+      let (names, records, entry) =
+      deck-raised d (same .before) (same .after) (same .first) (same .second) (same .name) (same .start) (same .starts) (same .startsHigher)
+      (x .end) (y .end) (ap (passOne 1 fresh) (sym (same .lower)) ∙ x .one) (ap (passOne 1 fresh) (sym (same .higher)) ∙ y .one)
+      (ap (checkTwo (find (x .end .names)) 1 outset) (sym (same .lower)) ∙ x .two) (ap (checkTwo (find (y .end .names)) 1 outset) (sym (same .higher)) ∙ y .two) in
+      let f : b ≡ bookFrom (find (x .end .names)) (same .before ++ same .first ∷ same .after) = x .book ∙ ap (bookFrom (find (x .end .names))) (same .lower) in
+      let g : c ≡ bookFrom (find (y .end .names)) (same .before ++ same .second ∷ same .after) = y .book ∙ ap (bookFrom (find (y .end .names))) (same .higher) in
+      (y .count ∙ ap length names ∙ length-map (x .end .names) (raisedName d) ∙ sym (x .count), rw (f, g) records, rw (f, g) entry)
 
-    higher : checkTwo (find up) (behind 1 before + 1) (begunTwo (startValue (l .shape) + d)) after ≡ Clean
-    higher = rw (value, names) at (two-behind before after t k reads′ is′ comments (e .names) clean′)
+  -- the counts of names agree
+  pub same-names : m ≡ n
+  same-names = deck-books .0
 
-    book-records : Raised d (recordsFrom (find (a .names)) 1 outset (before ++ s ∷ after)) (recordsFrom (find (e .names)) 1 outset (before ++ t ∷ after))
-    book-records =
-        rw (records-behind before after s l reads is comments (a .names), records-behind before after t k reads′ is′ comments (e .names), value, names)
-        (records-raised d (a .names) after (behind 1 before + 1) (begunTwo (startValue (l .shape))) usual lower higher)
+  -- the second book is the first, moved as the loader moves it: entry and addresses d higher, d added to the listed fields and to nothing else
+  pub book-raised : c ≡ movedBook d b
+  book-raised = rw (← records-moved d (b .records) (c .records) (deck-books .1), ← deck-books .2)
 
-    book-entry : entryFrom (find (e .names)) outset (before ++ t ∷ after) ≡ raisedEntry d (entryFrom (find (a .names)) outset (before ++ s ∷ after))
-    book-entry =
-        rw (entry-behind before after s l reads is comments (a .names), entry-behind before after t k reads′ is′ comments (e .names), value, names)
-        (entries-raised d (a .names) after (behind 1 before + 1) (begunTwo (startValue (l .shape))) usual lower higher)
+  -- loading the records of the first by d and those of the second by 0: the same answer, the same storage
+  pub records-load : (storage : List ℕ) → judged (b .entry) (record { 0 = d }) (b .records) storage ≡ judged (c .entry) (record { 0 = 0 }) (c .records) storage
+  unfolding bookFrom
+  records-load storage =
+      let y = both-passed ts m c accepted′ in
+      let fits : entryFits (c .entry) ≡ true = rw (y .book) (entry-fits (find (y .end .names)) ts outset) in
+      rw (deck-books .2) (judged-same d (b .records) (c .records) (deck-books .1) storage (b .entry) (rw (deck-books .2) at fits))
+
+  -- "every other byte of its text is the same at every start value": each record of the first book is there in the second, of the same card,
+  -- and a byte of its text that is in no listed field is the same
+  pub other-bytes-stay : (r : Record) → List·Memᴰ r (b .records)
+      → (q : Record) × (List·Memᴰ q (c .records)) × (q .card ≡ r .card) × (q .fields ≡ r .fields) × ((i : ℕ) → Apart i (r .fields) → getD (q .text) i 0 ≡ getD (r .text) i 0)
+  other-bytes-stay r h =
+      let here = subst (List·Memᴰ (movedRecord d r)) (sym (ap (λ (x : Book). x .records) book-raised)) (Memᴰ·map (movedRecord d) h) in
+      (movedRecord d r, here, refl, refl, other-bytes d r)
+
+-- THE SAME OF THE BOOKS' BYTES, where there are at most 4,000 cards
+pub moved-is-raised : (d : ℕ) (ss ts : List (List ℕ)) → SameButStart d ss ts → length ss ≤ 4000 → (n m : ℕ) (b c : Book)
+    → assembled ss ≡ made n b → assembled ts ≡ made m c
+    → (m ≡ n) × ((storage : List ℕ) → loading (bookBytes b) (record { 0 = d }) storage ≡ loading (bookBytes c) (record { 0 = 0 }) storage)
+moved-is-raised d ss ts same few n m b c p q = (
+  same-names d ss ts same n m b c p q,
+  λ storage. loaded-as-made ss few n b p (record { 0 = d }) storage ∙ records-load d ss ts same n m b c p q storage ∙ sym (loaded-as-made ts few′ m c q (record { 0 = 0 }) storage),
+)
+  where
+    few′ : length ts ≤ 4000
+    few′ =
+        let i = ap length (same .lower) ∙ length-append (same .before) (same .first ∷ same .after) in
+        let j = ap length (same .higher) ∙ length-append (same .before) (same .second ∷ same .after) in
+        omega arith

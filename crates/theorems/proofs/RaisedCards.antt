@@ -1,54 +1,49 @@
 -- One card, over names and a counter raised by d: what it does to the counter, to the names, to the bases, and its pieces.
-use Prim.Native.Nat.{ℕ, _+_, _-_}
+use Prim.Native.Nat.{ℕ, _+_}
 use mathlib.Core.List.{List, [], _∷_, map}
-use mathlib.Core.Bool.{Bool, true, false}
+use mathlib.Core.Bool.{Bool, true, false, false≢true}
 use mathlib.Core.Path.{_≡_, refl, sym, ap, _∙_, subst}
 use native.Mathlib.Omega.{arith}
 use lib.Dec.{eqb}
 use Rattle.values.specs.Tests.{pick}
 use Rattle.values.specs.declared.Value.the-variants.{Relocatable}
-use Rattle.values.proofs.Refusals.{or-zero, lower-zero}
+use Rattle.values.proofs.Refusals.{lower-zero}
 use Rattle.names.specs.declared.Name.{Name}
 use Rattle.names.specs.declared.Entry.{Entry}
-use Rattle.names.specs.Names.{find, defined}
+use Rattle.names.specs.Names.{find}
 use Rattle.names.specs.Table.{amountOf}
 use Rattle.names.specs.Raised.{raisedValue, raisedName}
-use Rattle.names.proofs.Names.{defined-raised}
-use Rattle.expressions.specs.declared.Wanted.the-variants.{OnlyAbsolute}
-use Rattle.expressions.specs.declared.Evaluated.{Evaluated}
 use Rattle.expressions.specs.Form.{expressionAt}
-use Rattle.expressions.specs.Value.{evaluated, valueIn, refusalFor}
+use Rattle.expressions.specs.Value.{evaluated, valueIn}
 use Rattle.operations.specs.declared.Operation.{Operation}
 use Rattle.operations.specs.declared.Operation.the-variants.{Unknown, Start, Equ, Org, Dc, Ds, Using, Drop, End, Decimal, Characters, Move, MoveOf, OneAddress, Branch, LoadAddress, BranchOn, Jump, JumpOn}
-use Rattle.data.specs.declared.Data.{Data}
 use Rattle.data.specs.declared.DataType.{DataType}
 use Rattle.data.specs.Text.{constantText}
 use Rattle.data.proofs.Fine.{constant-fine, reserve-fine}
 use Rattle.forms.specs.declared.Shape.{Shape}
-use Rattle.forms.specs.Shape.{lastAt, shapeOf}
-use Rattle.forms.specs.Size.{sizeOf}
+use Rattle.forms.specs.Shape.{shapeOf}
 use Rattle.statements.specs.declared.operands.Operands.{Operands}
 use Rattle.statements.specs.declared.places.Base.{Base}
 use Rattle.statements.specs.declared.places.Bases.{Bases}
 use Rattle.statements.specs.Operands.{amountIn, operandsOf}
 use Rattle.statements.specs.Kinds.{expressionsNo}
 use Rattle.statements.specs.Places.{withBase, registeredBy, basesBy}
-use Rattle.statements.specs.Statements.{numberOf, statementFrom, basesAfter, loneValue}
+use Rattle.statements.specs.Statements.{statementFrom, basesAfter, loneValue}
 use Rattle.encode.specs.Pieces.{Piece, piecesOf}
 use Rattle.encode.specs.Pieces.Piece.{plain}
 use Rattle.lines.specs.declared.Line.{Line}
 use Rattle.lines.specs.declared.Reading.the-variants.{Statement}
 use Rattle.lines.specs.Lines.{readingOf, operandIn, shapeNo}
+use Rattle.lines.proofs.Laws.{line-shape}
 use Rattle.passes.specs.declared.Role.{Role}
 use Rattle.passes.specs.declared.Role.the-variants.{Starts, Equates, SetsCounter, Ends, Makes}
-use Rattle.passes.specs.declared.Course.{Course}
-use Rattle.passes.specs.Cards.{roleOf, operandsAt, counterBy, counterAfter, placeNamed, nameValueBy, nameValue, nameLength}
-use Rattle.passes.specs.One.{State, againNo, earlyBy, earlyNo, dataNo, entered}
+use Rattle.passes.specs.Cards.{roleOf, operandsAt, counterBy, counterAfter, placeNamed, nameValueBy, nameValue}
+use Rattle.passes.specs.One.{againNo, earlyBy, earlyNo, dataNo}
 use Rattle.passes.specs.Two.{constantPieces, shapePieces, linePieces}
-use Rattle.theorems.specs.Moved.{raisedEvaluated, raisedOperands, raisedBase, raisedBases, raisedPiece, raisedState, raisedCourse}
+use Rattle.theorems.specs.Raised.{raisedOperands, raisedBase, raisedBases, raisedPiece}
 use Rattle.theorems.proofs.RaisedOperands.{operands-raised}
 use Rattle.theorems.proofs.RaisedStatements.{value-in-raised, absolute-in, relocatable-in, lone-raised, pieces-raised}
-use Rattle.theorems.proofs.Lines.{line-shape, last-has, pair-has}
+use Rattle.theorems.proofs.Lines.{last-has, pair-has, org-shape}
 
 -- refusals 18 to 20 are those of EQU and ORG again
 pub early-none : (r : Role) (op : Operation) (x : Operands) → expressionsNo op x ≡ 0 → earlyBy r op x ≡ 0
@@ -58,26 +53,33 @@ early-none SetsCounter op x h = h
 early-none Ends op x h = refl
 early-none Makes op x h = refl
 
-only-org : (op : Operation) → roleOf op ≡ SetsCounter → op ≡ Org
-only-org Unknown e = let z : _≡_ {A = ℕ} 0 1 = cc in absurd (omega arith)
-only-org Start e = let z : _≡_ {A = ℕ} 0 1 = cc in absurd (omega arith)
-only-org Equ e = let z : _≡_ {A = ℕ} 0 1 = cc in absurd (omega arith)
+abbrev sets : Role → Bool
+sets Starts = false
+sets Equates = false
+sets SetsCounter = true
+sets Ends = false
+sets Makes = false
+
+only-org : (op : Operation) → sets (roleOf op) ≡ true → op ≡ Org
+only-org Unknown e = absurd (false≢true e)
+only-org Start e = absurd (false≢true e)
+only-org Equ e = absurd (false≢true e)
 only-org Org e = refl
-only-org Dc e = let z : _≡_ {A = ℕ} 0 1 = cc in absurd (omega arith)
-only-org Ds e = let z : _≡_ {A = ℕ} 0 1 = cc in absurd (omega arith)
-only-org Using e = let z : _≡_ {A = ℕ} 0 1 = cc in absurd (omega arith)
-only-org Drop e = let z : _≡_ {A = ℕ} 0 1 = cc in absurd (omega arith)
-only-org End e = let z : _≡_ {A = ℕ} 0 1 = cc in absurd (omega arith)
-only-org (Decimal low) e = let z : _≡_ {A = ℕ} 0 1 = cc in absurd (omega arith)
-only-org (Characters low) e = let z : _≡_ {A = ℕ} 0 1 = cc in absurd (omega arith)
-only-org Move e = let z : _≡_ {A = ℕ} 0 1 = cc in absurd (omega arith)
-only-org (MoveOf item) e = let z : _≡_ {A = ℕ} 0 1 = cc in absurd (omega arith)
-only-org (OneAddress low) e = let z : _≡_ {A = ℕ} 0 1 = cc in absurd (omega arith)
-only-org (Branch low) e = let z : _≡_ {A = ℕ} 0 1 = cc in absurd (omega arith)
-only-org LoadAddress e = let z : _≡_ {A = ℕ} 0 1 = cc in absurd (omega arith)
-only-org (BranchOn q) e = let z : _≡_ {A = ℕ} 0 1 = cc in absurd (omega arith)
-only-org Jump e = let z : _≡_ {A = ℕ} 0 1 = cc in absurd (omega arith)
-only-org (JumpOn q) e = let z : _≡_ {A = ℕ} 0 1 = cc in absurd (omega arith)
+only-org Dc e = absurd (false≢true e)
+only-org Ds e = absurd (false≢true e)
+only-org Using e = absurd (false≢true e)
+only-org Drop e = absurd (false≢true e)
+only-org End e = absurd (false≢true e)
+only-org (Decimal low) e = absurd (false≢true e)
+only-org (Characters low) e = absurd (false≢true e)
+only-org Move e = absurd (false≢true e)
+only-org (MoveOf item) e = absurd (false≢true e)
+only-org (OneAddress low) e = absurd (false≢true e)
+only-org (Branch low) e = absurd (false≢true e)
+only-org LoadAddress e = absurd (false≢true e)
+only-org (BranchOn q) e = absurd (false≢true e)
+only-org Jump e = absurd (false≢true e)
+only-org (JumpOn q) e = absurd (false≢true e)
 
 -- a line that reads so, is not START, and whose operand has its form
 module _ (d : ℕ) (s : List ℕ) (l : Line) (reads : readingOf s ≡ Statement l) (later : againNo (roleOf (l .operation)) ≡ 0) (formed : shapeNo (l .shape) ≡ 0) where
@@ -86,14 +88,9 @@ module _ (d : ℕ) (s : List ℕ) (l : Line) (reads : readingOf s ≡ Statement 
       → amountOf (loneValue (raisedOperands d (operandsAt look here s l))) ≡ amountOf (loneValue (operandsAt look here s l)) + d
   unfolding operandsOf expressionsNo
   org-raised e look here h =
-      subst P (sym shape) (last-has P (λ q f g. absurd (omega arith)) (operandIn s l) 0 Shape.Expression (λ f g. relocatable-in d (evaluated look here (expressionAt (operandIn s l) 0)) g)) formed (rw e at h)
-    where
-      P : Shape → Type 0
-      P x = shapeNo x ≡ 0 → expressionsNo Org (operandsOf look here (operandIn s l) x) ≡ 0
-          → amountOf (loneValue (raisedOperands d (operandsOf look here (operandIn s l) x))) ≡ amountOf (loneValue (operandsOf look here (operandIn s l) x)) + d
-
-      shape : l .shape ≡ lastAt (operandIn s l) 0 Shape.Expression
-      shape = rw e at (line-shape s l reads)
+      let x : l .shape ≡ shapeOf Org (operandIn s l) = line-shape s l reads ∙ ap (λ op. shapeOf op (operandIn s l)) e in
+      let y : l .shape ≡ Shape.Expression = x ∙ org-shape (operandIn s l) (sym (ap shapeNo x) ∙ formed) in
+      rw y (relocatable-in d (evaluated look here (expressionAt (operandIn s l) 0)) (rw (e, y) at h))
 
   module _ (ns : List Name) (here : ℕ) where
     abbrev up : List Name
@@ -119,7 +116,7 @@ module _ (d : ℕ) (s : List ℕ) (l : Line) (reads : readingOf s ≡ Statement 
               → counterBy r x₁ (here + d) l ≡ counterBy r x₀ here l + d
           go Starts e n h k = absurd (omega arith)
           go Equates e n h k = refl
-          go SetsCounter e n h k = rw (at-raised h k) (org-raised (only-org (l .operation) e) (find ns) here h)
+          go SetsCounter e n h k = rw (at-raised h k) (org-raised (only-org (l .operation) (ap sets e)) (find ns) here h)
           go Ends e n h k = refl
           go Makes e n h k = omega arith
 

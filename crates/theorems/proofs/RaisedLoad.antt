@@ -1,31 +1,24 @@
 -- Two lists of records, the second the first raised by d: loading the first by d and the second by 0 comes to the same.
-use Prim.Native.Nat.{ℕ, _+_, _≤_}
+use Prim.Native.Nat.{ℕ, _+_}
 use mathlib.Core.List.{List, [], _∷_, map}
-use mathlib.Core.Bool.{Bool, true, false}
+use mathlib.Core.Bool.{true}
 use mathlib.Core.Path.{_≡_, refl, sym, ap, _∙_}
-use native.Mathlib.Omega.{arith}
 use native.Mathlib.Nat.{add-zero}
 use lib.ListN.{length}
-use lib.Dec.{leb, ltb}
 use lib.Seq.{sets}
-use borrow.Author.Tests.{le-leb, leb-true}
-use Rattle.values.specs.Tests.{pick}
 use Rattle.values.specs.Values.{movedBy}
-use Rattle.values.specs.declared.Displacement.{Displacement}
-use Rattle.values.specs.declared.Relocatable.{Relocatable}
-use Rattle.values.specs.declared.Moved.the-variants.{To}
 use Rattle.encode.specs.Pieces.{Piece, textOf, fieldsOf}
 use Rattle.book.specs.declared.Entry.{Entry}
 use Rattle.book.specs.declared.Entry.the-variants.{Absent, At}
 use Rattle.book.specs.Book.{Record}
 use Rattle.book.specs.Writing.{entryFits}
-use Rattle.fields.specs.Fields.{movedText, overField}
+use Rattle.fields.specs.Fields.{overField}
 use Rattle.fields.proofs.Laws.{moved-length}
-use Rattle.load.specs.declared.Loaded.{Loaded}
-use Rattle.load.specs.Load.{stored, storedAll, bytesStored, firstCard, outside, roomIn, Outcome, accepted, entered, refused, judged}
-use Rattle.load.proofs.Laws.{first-miss, first-none, stored-is, stored-first, stored-none, bytes-first, bytes-none, is-outside, is-entered}
+use Rattle.load.specs.Load.{stored, storedAll, bytesStored, firstCard, outside, roomIn, accepted, entered, judged}
+use Rattle.load.proofs.Laws.{first-miss, first-none}
 use Rattle.passes.specs.Two.{recordOf}
-use Rattle.theorems.specs.Moved.{raisedPiece, movedRecord, raisedEntry}
+use Rattle.theorems.specs.Raised.{raisedPiece}
+use Rattle.theorems.specs.Moved.{movedRecord, raisedEntry}
 use Rattle.theorems.proofs.RaisedText.{fields-stay, moved-pieces, Low, over-pieces, raised-by-none}
 
 module _ (d : ℕ) where

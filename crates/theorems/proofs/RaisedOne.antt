@@ -18,11 +18,11 @@ use Rattle.passes.specs.declared.Role.{Role}
 use Rattle.passes.specs.declared.Phase.{Phase}
 use Rattle.passes.specs.declared.Phase.the-variants.{Before, Within, Ended}
 use Rattle.passes.specs.Cards.{roleOf, nameValue, nameLength}
-use Rattle.passes.specs.One.{State, againNo, startNo, readingNo, oneNo, entered, phaseAfter, lineStep, readingStep, stepOne, Passed, endedAs, passOne}
-use Rattle.passes.specs.One.Passed.{through, stopped}
+use Rattle.passes.specs.One.{State, againNo, startNo, readingNo, oneNo, entered, phaseAfter, readingStep, stepOne, endedAs, passOne}
+use Rattle.passes.specs.One.Passed.{through}
 use Rattle.passes.proofs.Turns.{pass-turn, pass-end}
-use Rattle.passes.proofs.Fine.{Fine, fine, one-zero}
-use Rattle.theorems.specs.Moved.{raisedState}
+use Rattle.passes.proofs.Fine.{fine, one-zero}
+use Rattle.theorems.specs.Raised.{raisedState}
 use Rattle.theorems.proofs.RaisedCards.{counter-raised, name-raised}
 
 -- START has been met

@@ -1,6 +1,6 @@
 -- Operands where every relocatable name and the counter are raised by d: where no expression is refused on either side, they are the operands raised.
 use Prim.Native.Nat.{ℕ, _+_}
-use mathlib.Core.List.{List, [], _∷_, map}
+use mathlib.Core.List.{List, map}
 use mathlib.Core.Path.{_≡_, refl, sym, ap, _∙_}
 use Rattle.values.proofs.Refusals.{lower-zero}
 use Rattle.terms.specs.Terms.{termAt}
@@ -11,19 +11,18 @@ use Rattle.expressions.specs.declared.Wanted.{Wanted}
 use Rattle.expressions.specs.declared.Wanted.the-variants.{Any, OnlyAbsolute}
 use Rattle.expressions.specs.declared.Evaluated.the-variants.{Good}
 use Rattle.expressions.specs.Form.{Placed, Addend, Read, expressionAt}
-use Rattle.expressions.specs.Value.{evaluated, valueIn, refusalFor}
+use Rattle.expressions.specs.Value.{evaluated, refusalFor}
 use Rattle.expressions.proofs.Laws.{accepted}
 use Rattle.operations.specs.declared.Operation.{Operation}
 use Rattle.data.specs.declared.DataType.{DataType}
 use Rattle.data.specs.declared.DataType.the-variants.{Characters, Hexadecimal, Decimal, Address}
-use Rattle.data.specs.declared.Data.{Data}
 use Rattle.forms.specs.declared.Item.{Item}
 use Rattle.forms.specs.declared.Address.{Address as Written}
 use Rattle.forms.specs.declared.Shape.{Shape}
 use Rattle.statements.specs.declared.operands.Operands.{Operands}
-use Rattle.statements.specs.Operands.{itemOf, placeOf, constantBy, constantOf, operandsOf}
+use Rattle.statements.specs.Operands.{itemOf, placeOf, constantBy, operandsOf}
 use Rattle.statements.specs.Kinds.{firstWanted, itemNo, placeNo, addressWanted, expressionsNo}
-use Rattle.theorems.specs.Moved.{raisedEvaluated, raisedValued, raisedPlace, raisedOperands}
+use Rattle.theorems.specs.Raised.{raisedEvaluated, raisedValued, raisedPlace, raisedOperands}
 use Rattle.theorems.proofs.Raising.{expression-raised, implied-raised}
 
 module _ (d : ℕ) (ns : List Name) (here : ℕ) where

@@ -1,7 +1,7 @@
 -- A card's operands and bases raised by d: Q, lengths, registers, displacement bytes and jump bytes stay, and its pieces are raised.
 use Prim.Native.Nat.{ℕ, zero, suc, _+_, _-_, _%_, _/_}
-use mathlib.Core.List.{List, [], _∷_, _++_, map, map-append}
-use mathlib.Core.Bool.{Bool, true, false}
+use mathlib.Core.List.{List, [], _∷_, map, map-append}
+use mathlib.Core.Bool.{Bool, true, false, false≢true}
 use mathlib.Core.Path.{_≡_, refl, sym, ap, _∙_}
 use native.Mathlib.Omega.{arith}
 use lib.Dec.{leb, eqb}
@@ -13,7 +13,6 @@ use Rattle.values.specs.declared.Value.the-variants.{Absolute, Relocatable}
 use Rattle.values.proofs.Refusals.{lower-zero}
 use Rattle.names.specs.Table.{amountOf}
 use Rattle.names.specs.Raised.{raisedValue}
-use Rattle.expressions.specs.declared.Wanted.{Wanted}
 use Rattle.expressions.specs.declared.Wanted.the-variants.{Any, OnlyAbsolute, OnlyRelocatable}
 use Rattle.expressions.specs.declared.Evaluated.{Evaluated}
 use Rattle.expressions.specs.declared.Evaluated.the-variants.{Good, Malformed, Undefined, WrongKind, OutOfRange}
@@ -34,11 +33,12 @@ use Rattle.statements.specs.declared.Statement.{Statement}
 use Rattle.statements.specs.Operands.{amountIn, amountOr}
 use Rattle.statements.specs.Kinds.{firstWanted, itemNo, placeNo, addressWanted, expressionsNo}
 use Rattle.statements.specs.Codes.{ruleOf, twoCode, behindCode, codeOf, codeByte}
-use Rattle.statements.specs.Places.{useOf, isRegister, baseOf, awayFrom, awayFromBase, underBase, displacedBy, indexedBy, byRegister, operandOf, operandIn, jumpCode, withBase}
+use Rattle.statements.specs.Places.{useOf, isRegister, awayFrom, displacedBy, indexedBy, byRegister, operandOf, operandIn, jumpCode}
 use Rattle.statements.specs.Statements.{jumpOf, statementFrom, loneValue}
-use Rattle.encode.specs.Pieces.{Piece, modeOf, operandPieces, addressPieces, copied, piecesOf}
+use Rattle.encode.specs.Pieces.{Piece, addressPieces, copied, piecesOf}
 use Rattle.encode.specs.Pieces.Piece.{plain, value}
-use Rattle.theorems.specs.Moved.{raisedEvaluated, raisedValued, raisedPlace, raisedOperands, raisedBase, raisedBases, raisedOperand, raisedPlaced, raisedPiece}
+use Rattle.theorems.specs.Raised.{raisedEvaluated, raisedValued, raisedPlace, raisedOperands, raisedBase, raisedBases, raisedOperand, raisedPlaced, raisedPiece}
+use Rattle.theorems.proofs.Lines.{jumps}
 
 module _ (d : ℕ) where
   -- VALUES
@@ -53,10 +53,10 @@ module _ (d : ℕ) where
   -- a value of a kind that only absolute ones have stays
   absolute-stays : (v : Value) → suits OnlyAbsolute (kindOf v) ≡ true → raisedValue d v ≡ v
   absolute-stays (Absolute a) h = refl
-  absolute-stays (Relocatable a) h = let z : _≡_ {A = ℕ} 0 1 = cc in absurd (omega arith)
+  absolute-stays (Relocatable a) h = absurd (false≢true h)
 
   relocatable-moves : (v : Value) → suits OnlyRelocatable (kindOf v) ≡ true → amountOf (raisedValue d v) ≡ amountOf v + d
-  relocatable-moves (Absolute a) h = let z : _≡_ {A = ℕ} 0 1 = cc in absurd (omega arith)
+  relocatable-moves (Absolute a) h = absurd (false≢true h)
   relocatable-moves (Relocatable a) h = refl
 
   pub absolute-in : (e : Evaluated) → refusalFor OnlyAbsolute e ≡ 0 → valueIn (raisedEvaluated d e) ≡ valueIn e
@@ -178,30 +178,30 @@ module _ (d : ℕ) where
       let s : amountIn e + d - (here + 3 + d) ≡ amountIn e - (here + 3) = omega arith in
       rw (relocatable-in e h, n, leb-both (here + 3) (amountIn e), s)
 
-  jump-wants : (op : Operation) → useOf op ≡ Use.Jumps → firstWanted op ≡ OnlyRelocatable
-  jump-wants Unknown e = let z : _≡_ {A = ℕ} 0 1 = cc in absurd (omega arith)
-  jump-wants Start e = let z : _≡_ {A = ℕ} 0 1 = cc in absurd (omega arith)
-  jump-wants Equ e = let z : _≡_ {A = ℕ} 0 1 = cc in absurd (omega arith)
+  jump-wants : (op : Operation) → jumps (useOf op) ≡ true → firstWanted op ≡ OnlyRelocatable
+  jump-wants Unknown e = absurd (false≢true e)
+  jump-wants Start e = absurd (false≢true e)
+  jump-wants Equ e = absurd (false≢true e)
   jump-wants Org e = refl
-  jump-wants Dc e = let z : _≡_ {A = ℕ} 0 1 = cc in absurd (omega arith)
-  jump-wants Ds e = let z : _≡_ {A = ℕ} 0 1 = cc in absurd (omega arith)
-  jump-wants Using e = let z : _≡_ {A = ℕ} 0 1 = cc in absurd (omega arith)
-  jump-wants Drop e = let z : _≡_ {A = ℕ} 0 1 = cc in absurd (omega arith)
+  jump-wants Dc e = absurd (false≢true e)
+  jump-wants Ds e = absurd (false≢true e)
+  jump-wants Using e = absurd (false≢true e)
+  jump-wants Drop e = absurd (false≢true e)
   jump-wants End e = refl
-  jump-wants (Decimal low) e = let z : _≡_ {A = ℕ} 0 1 = cc in absurd (omega arith)
-  jump-wants (Characters low) e = let z : _≡_ {A = ℕ} 0 1 = cc in absurd (omega arith)
-  jump-wants Move e = let z : _≡_ {A = ℕ} 0 1 = cc in absurd (omega arith)
-  jump-wants (MoveOf item) e = let z : _≡_ {A = ℕ} 0 1 = cc in absurd (omega arith)
-  jump-wants (OneAddress low) e = let z : _≡_ {A = ℕ} 0 1 = cc in absurd (omega arith)
-  jump-wants (Branch low) e = let z : _≡_ {A = ℕ} 0 1 = cc in absurd (omega arith)
-  jump-wants LoadAddress e = let z : _≡_ {A = ℕ} 0 1 = cc in absurd (omega arith)
-  jump-wants (BranchOn q) e = let z : _≡_ {A = ℕ} 0 1 = cc in absurd (omega arith)
+  jump-wants (Decimal low) e = absurd (false≢true e)
+  jump-wants (Characters low) e = absurd (false≢true e)
+  jump-wants Move e = absurd (false≢true e)
+  jump-wants (MoveOf item) e = absurd (false≢true e)
+  jump-wants (OneAddress low) e = absurd (false≢true e)
+  jump-wants (Branch low) e = absurd (false≢true e)
+  jump-wants LoadAddress e = absurd (false≢true e)
+  jump-wants (BranchOn q) e = absurd (false≢true e)
   jump-wants Jump e = refl
   jump-wants (JumpOn q) e = refl
 
   jump-of : (op : Operation) (u : Use) (q here : ℕ) (e : Evaluated) → useOf op ≡ u → refusalFor (firstWanted op) e ≡ 0
       → jumpOf u q (here + d) (valueIn (raisedEvaluated d e)) ≡ jumpOf u q here (valueIn e)
-  jump-of op Use.Jumps q here e k h = rw (jump-stays here e (rw (jump-wants op k) at h))
+  jump-of op Use.Jumps q here e k h = rw (jump-stays here e (rw (jump-wants op (ap jumps k)) at h))
   jump-of op Use.Registers q here e k h = refl
   jump-of op Use.Nothing q here e k h = refl
 

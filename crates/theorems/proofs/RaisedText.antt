@@ -1,23 +1,22 @@
 -- Pieces and their bytes: a text whose listed fields are moved by d is the text of the pieces raised by d; and when a moved field is over 65535.
-use Prim.{Unit, tt}
-use Prim.Native.Nat.{ℕ, _+_, _*_, _/_, _%_, _≤_, _<_}
+use Prim.{Unit}
+use Prim.Native.Nat.{ℕ, _+_, _/_, _%_, _<_}
 use mathlib.Core.List.{List, [], _∷_, _++_, map, append-assoc}
 use mathlib.Core.Bool.{false}
 use mathlib.Core.Path.{_≡_, refl, sym, ap, _∙_}
 use native.Mathlib.Omega.{arith}
 use native.Mathlib.Nat.{add-zero}
 use lib.ListN.{length, length-append}
-use lib.Seq.{sets, set-at}
+use lib.Seq.{sets}
 use Rattle.values.specs.Words.{word, twoBytes}
-use Rattle.values.specs.declared.Value.{Value}
 use Rattle.values.specs.declared.Value.the-variants.{Absolute, Relocatable}
 use Rattle.values.proofs.Laws.{word-shift}
 use Rattle.names.specs.Table.{amountOf}
-use Rattle.encode.specs.Pieces.{Piece, pieceSize, textOf, fieldsFrom, fieldsOf}
+use Rattle.encode.specs.Pieces.{Piece, textOf, fieldsFrom, fieldsOf}
 use Rattle.encode.specs.Pieces.Piece.{plain, value}
 use Rattle.fields.specs.Fields.{movedIn, overIn}
 use Rattle.fields.proofs.Laws.{over-later, over-none, moved-first, moved-none}
-use Rattle.theorems.specs.Moved.{raisedPiece}
+use Rattle.theorems.specs.Raised.{raisedPiece}
 
 -- the word at the seam of two lists
 word-seam : (pre : List ℕ) (a : ℕ) (rest : List ℕ) → word (pre ++ (twoBytes a ++ rest)) (length pre) ≡ a % 65536

@@ -30,6 +30,7 @@ use Rattle.forms.specs.Size.{sizeOf}
 use Rattle.forms.proofs.Laws.{address-size}
 use Rattle.statements.specs.Places.{useOf}
 use Rattle.statements.specs.Statements.{loneValue}
+use Rattle.statements.proofs.Fits.{lone-fits}
 use Rattle.encode.specs.Pieces.{Piece, textOf}
 use Rattle.load.specs.declared.Loaded.the-variants.{Broken}
 use Rattle.load.specs.Load.{judged, ofBook, loading}
@@ -52,7 +53,7 @@ use Rattle.theorems.specs.Grow.{readingSize, cardSize}
 use Rattle.theorems.specs.Readable.{textSize, readingMakes, makes}
 use Rattle.theorems.proofs.Lines.{jumps, Told, line-told}
 use Rattle.theorems.proofs.Kept.{names-grow}
-use Rattle.theorems.proofs.Grow.{card-counter, card-room, step-low, lone-low}
+use Rattle.theorems.proofs.Grow.{card-counter, card-room, step-low}
 use Rattle.theorems.proofs.Texts.{some-text, card-makes, fields-fit}
 use Rattle.theorems.proofs.Made.{both-passed}
 use Rattle.theorems.proofs.Loads.{Load, load}
@@ -135,7 +136,7 @@ entry-low : (v : Value) → amountOf v ≤ 65535 → entryFits (entryBy v) ≡ t
 entry-low (Absolute a) h = refl
 entry-low (Relocatable a) h = le-leb (a .0) 65535 h
 
-entry-fits : (look : ℕ → Entry) (ss : List (List ℕ)) (c : Course) → entryFits (entryFrom look c ss) ≡ true
+pub entry-fits : (look : ℕ → Entry) (ss : List (List ℕ)) (c : Course) → entryFits (entryFrom look c ss) ≡ true
 unfolding entryFrom
 entry-fits look [] c = refl
 entry-fits look (s ∷ ss) c = go (readingOf s) (entryFrom look (stepTwo look c s) ss) (entry-fits look ss (stepTwo look c s))
@@ -151,7 +152,7 @@ entry-fits look (s ∷ ss) c = go (readingOf s) (entryFrom look (stepTwo look c 
     go Comment rest h = h
     go BadName rest h = h
     go (Statement l) rest h =
-        by (roleOf (l .operation)) (loneValue (operandsAt look (c .counter) s l)) rest (lone-low look (c .counter) (operandIn s l) (l .shape)) h
+        by (roleOf (l .operation)) (loneValue (operandsAt look (c .counter) s l)) rest (omega (arith, lone-fits look (c .counter) (operandIn s l) (l .shape))) h
 
 -- LOADING a book that could be read is never refused by 50
 read-whole : (s : List ℕ) (b : Book) → bookOf s ≡ some b → (d : Displacement) (m : List ℕ) → loading s d m .answer ≡ Broken → ⊥
@@ -211,9 +212,9 @@ module _ (width : ℕ) (source work out : List ℕ) (bytes names : ℕ) (h : ass
       go : Way width source work out → (b : Book) × (assembled (cardsOf width source) ≡ made names b) × (take bytes (assembling width source work out .out) ≡ bookBytes b)
           × (bookOf (take bytes (assembling width source work out .out)) ≡ some b)
       go (atOnce number l u e) = absurd (other number 0 work out e)
-      go (byCards number card f e) = absurd (other number card (zeroed workSize work) out e)
-      go (tooLong n b f l e) = absurd (other 30 0 (zeroed workSize work) out e)
-      go (whole n b few f l e) =
+      go (byCards w few number card f e) = absurd (other number card (zeroed workSize work) out e)
+      go (tooLong w n b f l e) = absurd (other 30 0 (zeroed workSize work) out e)
+      go (whole w n b few f l e) =
           let size : bytes ≡ length (bookBytes b) = cc in
           let count : names ≡ n = cc in
           let front : take bytes (assembling width source work out .out) ≡ bookBytes b = rw (e, size) (take-stored out (bookBytes b) l) in

@@ -1,42 +1,40 @@
 -- Up to START: only comment cards stand before it, and it sets the counter and its name and makes nothing.
 use Prim.{Unit, tt}
 use Prim.Native.Nat.{ℕ, _+_}
-use mathlib.Core.List.{List, [], _∷_, _++_, map}
-use mathlib.Core.Bool.{Bool, true, false}
-use mathlib.Core.Path.{_≡_, refl, sym, ap, _∙_, subst}
+use mathlib.Core.List.{List, [], _∷_, _++_}
+use mathlib.Core.Path.{_≡_, refl, ap, _∙_}
 use native.Mathlib.Omega.{arith}
 use lib.Dec.{eqb}
 use Rattle.values.specs.Tests.{pick}
 use Rattle.values.specs.declared.Value.the-variants.{Relocatable}
 use Rattle.names.specs.declared.Name.{Name}
 use Rattle.names.specs.declared.Entry.{Entry}
-use Rattle.names.specs.Names.{find, defined}
+use Rattle.names.specs.Names.{defined}
 use Rattle.operations.specs.declared.Operation.the-variants.{Start}
 use Rattle.forms.specs.declared.Shape.{Shape}
 use Rattle.forms.specs.Shape.{shapeOf}
-use Rattle.statements.specs.declared.places.Base.{Base}
-use Rattle.statements.specs.declared.places.Bases.{Bases}
 use Rattle.statements.specs.Operands.{operandsOf}
 use Rattle.statements.specs.Places.{basesBy}
-use Rattle.statements.specs.Statements.{statementFrom}
-use Rattle.encode.specs.Pieces.{Piece, piecesOf}
+use Rattle.statements.specs.Statements.{statementFrom, statementOf}
+use Rattle.encode.specs.Pieces.{piecesOf}
 use Rattle.book.specs.declared.Entry.{Entry as BookEntry}
 use Rattle.lines.specs.declared.Line.{Line}
 use Rattle.lines.specs.declared.Reading.{Reading}
 use Rattle.lines.specs.declared.Reading.the-variants.{Comment, BadName, Statement}
 use Rattle.lines.specs.Lines.{readingOf, operandIn}
+use Rattle.lines.proofs.Laws.{line-shape}
 use Rattle.passes.specs.declared.Role.{Role}
 use Rattle.passes.specs.declared.Phase.the-variants.{Before, Within}
 use Rattle.passes.specs.declared.Course.{Course}
 use Rattle.passes.specs.declared.Checked.the-variants.{Clean}
-use Rattle.passes.specs.Cards.{roleOf, startValue, operandsAt, counterBy, counterAfter, nameValueBy, nameValue, nameLength}
-use Rattle.passes.specs.One.{State, fresh, missingNo, readingNo, oneNo, entered, phaseAfter, readingStep, stepOne, passOne}
+use Rattle.passes.specs.Cards.{roleOf, startValue, counterAfter, nameValue, nameLength}
+use Rattle.passes.specs.One.{State, fresh, missingNo, readingNo, entered, phaseAfter, stepOne, passOne}
 use Rattle.passes.specs.One.Passed.{through}
-use Rattle.passes.specs.Two.{outset, twoNo, readingTwoStep, stepTwo, checkTwo, shapePieces, linePieces, readingPieces, cardPieces, recordsFrom, readingEntry, entryFrom}
+use Rattle.passes.specs.Two.{outset, stepTwo, checkTwo, shapePieces, linePieces, cardPieces, recordsFrom, readingEntry, entryFrom}
 use Rattle.passes.proofs.Turns.{pass-turn, check-turn}
 use Rattle.passes.proofs.Fine.{fine, one-zero}
 use Rattle.theorems.specs.Moved.{Starting}
-use Rattle.theorems.proofs.Lines.{line-shape, start-has}
+use Rattle.theorems.proofs.Lines.{start-has}
 use Rattle.theorems.proofs.RaisedOne.{Begun, Usual, AllUsual, pass-usual}
 
 -- every card is a comment
@@ -62,23 +60,23 @@ behind k [] = k
 behind k (s ∷ ss) = behind (k + 1) ss
 
 module _ (rest : List (List ℕ)) where
-  pub comments-one : (ss : List (List ℕ)) → AllComments ss → (k : ℕ) (st a : State) → passOne k st (ss ++ rest) ≡ through a → passOne (behind k ss) st rest ≡ through a
+  comments-one : (ss : List (List ℕ)) → AllComments ss → (k : ℕ) (st a : State) → passOne k st (ss ++ rest) ≡ through a → passOne (behind k ss) st rest ≡ through a
   comments-one [] c k st a h = h
   comments-one (s ∷ ss) (e, c) k st a h =
       comments-one ss c (k + 1) st a (rw (comment-one st s e) at (pass-turn k st a s (ss ++ rest) h .1))
 
   module _ (look : ℕ → Entry) (course : Course) where
-    pub comments-clean : (ss : List (List ℕ)) → AllComments ss → (k : ℕ) → checkTwo look k course (ss ++ rest) ≡ Clean → checkTwo look (behind k ss) course rest ≡ Clean
+    comments-clean : (ss : List (List ℕ)) → AllComments ss → (k : ℕ) → checkTwo look k course (ss ++ rest) ≡ Clean → checkTwo look (behind k ss) course rest ≡ Clean
     comments-clean [] c k h = h
     comments-clean (s ∷ ss) (e, c) k h =
         comments-clean ss c (k + 1) (rw (comment-two look course s e) at (check-turn look k course s (ss ++ rest) h .1))
 
-    pub comments-records : (ss : List (List ℕ)) → AllComments ss → (k : ℕ) → recordsFrom look k course (ss ++ rest) ≡ recordsFrom look (behind k ss) course rest
+    comments-records : (ss : List (List ℕ)) → AllComments ss → (k : ℕ) → recordsFrom look k course (ss ++ rest) ≡ recordsFrom look (behind k ss) course rest
     unfolding recordsFrom
     comments-records [] c k = refl
     comments-records (s ∷ ss) (e, c) k = rw (comment-pieces look course s e, comment-two look course s e) (comments-records ss c (k + 1))
 
-    pub comments-entry : (ss : List (List ℕ)) → AllComments ss → entryFrom look course (ss ++ rest) ≡ entryFrom look course rest
+    comments-entry : (ss : List (List ℕ)) → AllComments ss → entryFrom look course (ss ++ rest) ≡ entryFrom look course rest
     unfolding entryFrom
     comments-entry [] c = refl
     comments-entry (s ∷ ss) (e, c) = rw (comment-two look course s e, e) (comments-entry ss c)
@@ -114,78 +112,83 @@ module _ (s : List ℕ) (l : Line) (reads : readingOf s ≡ Statement l) (is : l
       let e : l .shape ≡ shapeOf Start (operandIn s l) = line-shape s l reads ∙ ap (λ op. shapeOf op (operandIn s l)) is in
       rw e (start-has P fails (operandIn s l) nothing starts)
 
-  pub start-one : stepOne fresh s ≡ begunOne (l .name) (startValue (l .shape))
+  line-one : stepOne fresh s ≡ begunOne (l .name) (startValue (l .shape))
   unfolding stepOne entered nameValue counterAfter defined
-  start-one =
+  line-one =
       let one : nameLength Start (l .shape) ≡ 1 = shape-is (λ x. nameLength Start x ≡ 1) (λ q. refl) refl (λ v. refl) in
       rw (reads, is, one)
 
-  module _ (look : ℕ → Entry) where
-    pub start-two : stepTwo look outset s ≡ begunTwo (startValue (l .shape))
-    unfolding stepTwo counterAfter basesBy
-    start-two = rw (reads, is)
+  line-two : (look : ℕ → Entry) → stepTwo look outset s ≡ begunTwo (startValue (l .shape))
+  unfolding stepTwo counterAfter basesBy
+  line-two look = rw (reads, is)
 
-    pub start-pieces : cardPieces look outset s ≡ []
-    unfolding cardPieces linePieces operandsOf statementFrom piecesOf
-    start-pieces =
-        let none = shape-is (λ x. shapePieces x (operandIn s l) (piecesOf (statementFrom (l .operation) (operandsOf look 0 (operandIn s l) x) 0 (outset .bases))) ≡ []) (λ q. refl) refl (λ v. refl) in
-        rw reads none
+  line-pieces : (look : ℕ → Entry) → cardPieces look outset s ≡ []
+  unfolding cardPieces linePieces operandsOf statementFrom piecesOf
+  line-pieces look =
+      rw reads (shape-is (λ x. shapePieces x (operandIn s l) (piecesOf (statementOf (l .operation) x (operandIn s l) look 0 (outset .bases))) ≡ []) (λ q. refl) refl (λ v. refl))
 
-    pub start-entry : (rest : BookEntry) → readingEntry look outset s (readingOf s) rest ≡ rest
-    start-entry rest = rw (reads, is)
+  line-entry : (look : ℕ → Entry) (rest : BookEntry) → readingEntry look outset s (readingOf s) rest ≡ rest
+  line-entry look rest = rw (reads, is)
 
-  -- COMMENTS BEFORE IT
+  line-again : Usual (readingOf s) → ⊥
+  line-again u =
+      let (again, _) = rw reads at u in
+      let z = rw is at again in
+      omega arith
 
-  module _ (after : List (List ℕ)) where
-    start-usual : (before : List (List ℕ)) → AllUsual (before ++ s ∷ after) → Usual (readingOf s)
-    start-usual [] h = h .0
-    start-usual (x ∷ before) h = start-usual before (h .1)
+-- A DECK WITH START AT A PLACE, whose passes come down to the cards behind it
 
-    -- 13: "START missing first, or again"
-    start-again : (before : List (List ℕ)) (k : ℕ) (st a : State) → Begun (st .phase) → passOne k st (before ++ s ∷ after) ≡ through a → ⊥
-    start-again before k st a b h =
-        let u = start-usual before (pass-usual (before ++ s ∷ after) k st a b h) in
-        let v = (rw reads at u) .0 in
-        let z = rw is at v in
-        omega arith
+module _ (before : List (List ℕ)) (s : List ℕ) (after : List (List ℕ)) (name at : ℕ) (card : Starting s name at) where
+  start-one : stepOne fresh s ≡ begunOne name at
+  start-one =
+      line-one s (card .line) (card .reads) (card .operation)
+      ∙ ap (λ x. begunOne x (startValue (card .line .shape))) (card .name) ∙ ap (begunOne name) (card .value)
 
-    pub only-comments : (before : List (List ℕ)) (k : ℕ) (a : State) → passOne k fresh (before ++ s ∷ after) ≡ through a → AllComments before
-    only-comments [] k a h = tt
-    only-comments (x ∷ before) k a h =
-        let (n, p) = pass-turn k fresh a x (before ++ s ∷ after) h in
-        go (readingOf x) refl (one-zero fresh x n .2) p (only-comments before (k + 1) a)
-      where
-        go : (r : Reading) → readingOf x ≡ r → readingNo fresh x r ≡ 0 → passOne (k + 1) (stepOne fresh x) (before ++ s ∷ after) ≡ through a
-            → (passOne (k + 1) fresh (before ++ s ∷ after) ≡ through a → AllComments before) → AllComments (x ∷ before)
-        go Comment e h p ih = (e, ih (rw (comment-one fresh x e) at p))
-        go BadName e h p ih = absurd (omega arith)
-        go (Statement m) e h p ih = absurd (start-again before (k + 1) (stepOne fresh x) a (begins x m e h) p)
+  start-two : (look : ℕ → Entry) → stepTwo look outset s ≡ begunTwo at
+  start-two look = line-two s (card .line) (card .reads) (card .operation) look ∙ ap begunTwo (card .value)
 
--- THE CARDS BEHIND START, to which a whole deck comes down
+  start-usual : (xs : List (List ℕ)) → AllUsual (xs ++ s ∷ after) → Usual (readingOf s)
+  start-usual [] h = h .0
+  start-usual (x ∷ xs) h = start-usual xs (h .1)
 
-module _ (before after : List (List ℕ)) (s : List ℕ) (l : Line) (reads : readingOf s ≡ Statement l) (is : l .operation ≡ Start) (comments : AllComments before) where
-  abbrev pub deck : List (List ℕ)
-  deck = before ++ s ∷ after
+  -- 13: "START missing first, or again"
+  start-again : (xs : List (List ℕ)) (k : ℕ) (st a : State) → Begun (st .phase) → passOne k st (xs ++ s ∷ after) ≡ through a → ⊥
+  start-again xs k st a b h =
+      line-again s (card .line) (card .reads) (card .operation) (start-usual xs (pass-usual (xs ++ s ∷ after) k st a b h))
 
-  abbrev pub next : ℕ
-  next = behind 1 before + 1
+  comments-from : (xs : List (List ℕ)) (k : ℕ) (a : State) → passOne k fresh (xs ++ s ∷ after) ≡ through a → AllComments xs
+  comments-from [] k a h = tt
+  comments-from (x ∷ xs) k a h =
+      let (n, p) = pass-turn k fresh a x (xs ++ s ∷ after) h in
+      go (readingOf x) refl (one-zero fresh x n .2) p (comments-from xs (k + 1) a)
+    where
+      go : (r : Reading) → readingOf x ≡ r → readingNo fresh x r ≡ 0 → passOne (k + 1) (stepOne fresh x) (xs ++ s ∷ after) ≡ through a
+          → (passOne (k + 1) fresh (xs ++ s ∷ after) ≡ through a → AllComments xs) → AllComments (x ∷ xs)
+      go Comment e h p ih = (e, ih (rw (comment-one fresh x e) at p))
+      go BadName e h p ih = absurd (omega arith)
+      go (Statement m) e h p ih = absurd (start-again xs (k + 1) (stepOne fresh x) a (begins x m e h) p)
 
-  pub one-behind : (a : State) → passOne 1 fresh deck ≡ through a → passOne next (begunOne (l .name) (startValue (l .shape))) after ≡ through a
-  one-behind a p = rw (start-one s l reads is) at (pass-turn (behind 1 before) fresh a s after (comments-one (s ∷ after) before comments 1 fresh a p) .1)
+  pub only-comments : (a : State) → passOne 1 fresh (before ++ s ∷ after) ≡ through a → AllComments before
+  only-comments a h = comments-from before 1 a h
 
-  module _ (ns : List Name) where
-    pub two-behind : checkTwo (find ns) 1 outset deck ≡ Clean → checkTwo (find ns) next (begunTwo (startValue (l .shape))) after ≡ Clean
-    two-behind p =
-        rw (start-two s l reads is (find ns)) at (check-turn (find ns) (behind 1 before) outset s after (comments-clean (s ∷ after) (find ns) outset before comments 1 p) .1)
+  module _ (comments : AllComments before) where
+    pub one-behind : (a : State) → passOne 1 fresh (before ++ s ∷ after) ≡ through a → passOne (behind 1 before + 1) (begunOne name at) after ≡ through a
+    one-behind a p = rw start-one at (pass-turn (behind 1 before) fresh a s after (comments-one (s ∷ after) before comments 1 fresh a p) .1)
 
-    pub records-behind : recordsFrom (find ns) 1 outset deck ≡ recordsFrom (find ns) next (begunTwo (startValue (l .shape))) after
-    unfolding recordsFrom
-    records-behind =
-        comments-records (s ∷ after) (find ns) outset before comments 1 ∙ rw (start-pieces s l reads is (find ns), start-two s l reads is (find ns))
+    module _ (look : ℕ → Entry) where
+      pub two-behind : checkTwo look 1 outset (before ++ s ∷ after) ≡ Clean → checkTwo look (behind 1 before + 1) (begunTwo at) after ≡ Clean
+      two-behind p =
+          rw (start-two look) at (check-turn look (behind 1 before) outset s after (comments-clean (s ∷ after) look outset before comments 1 p) .1)
 
-    pub entry-behind : entryFrom (find ns) outset deck ≡ entryFrom (find ns) (begunTwo (startValue (l .shape))) after
-    unfolding entryFrom
-    entry-behind =
-        comments-entry (s ∷ after) (find ns) outset before comments
-        ∙ start-entry s l reads is (find ns) (entryFrom (find ns) (stepTwo (find ns) outset s) after)
-        ∙ ap (λ c. entryFrom (find ns) c after) (start-two s l reads is (find ns))
+      pub records-behind : recordsFrom look 1 outset (before ++ s ∷ after) ≡ recordsFrom look (behind 1 before + 1) (begunTwo at) after
+      unfolding recordsFrom
+      records-behind =
+          comments-records (s ∷ after) look outset before comments 1
+          ∙ rw (line-pieces s (card .line) (card .reads) (card .operation) look, start-two look)
+
+      pub entry-behind : entryFrom look outset (before ++ s ∷ after) ≡ entryFrom look (begunTwo at) after
+      unfolding entryFrom
+      entry-behind =
+          comments-entry (s ∷ after) look outset before comments
+          ∙ line-entry s (card .line) (card .reads) (card .operation) look (entryFrom look (stepTwo look outset s) after)
+          ∙ ap (λ c. entryFrom look c after) (start-two look)

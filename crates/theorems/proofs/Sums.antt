@@ -169,9 +169,9 @@ counts-of-call width source work out bytes names h = go (way width source work o
     go : Way width source work out
         → (b : Book) × (assembled (cardsOf width source) ≡ made names b) × (bytes ≡ 8 + total recordLength (b .records)) × (names ≡ total defines (cardsOf width source))
     go (atOnce number l u e) = absurd (other number 0 work out e)
-    go (byCards number card f e) = absurd (other number card (zeroed workSize work) out e)
-    go (tooLong n b f l e) = absurd (other 30 0 (zeroed workSize work) out e)
-    go (whole n b few f l e) =
+    go (byCards w few number card f e) = absurd (other number card (zeroed workSize work) out e)
+    go (tooLong w n b f l e) = absurd (other 30 0 (zeroed workSize work) out e)
+    go (whole w n b few f l e) =
         let size : bytes ≡ length (bookBytes b) = cc in
         let count : names ≡ n = cc in
         (b, f ∙ ap (λ x. made x b) (sym count), size ∙ book-length b, count ∙ count-of-names (cardsOf width source) n b f)

@@ -1,9 +1,8 @@
 -- How long a card's text is, and that its fields lie inside it.
-use Prim.Native.Nat.{ℕ, zero, suc, _+_, _-_, _*_, _/_, _%_, _≤_}
+use Prim.Native.Nat.{ℕ, _+_, _-_, _*_, _/_, _%_, _≤_}
 use mathlib.Core.List.{List, [], _∷_, _++_, map}
 use mathlib.Core.Bool.{Bool, true, false}
 use mathlib.Core.Path.{_≡_, refl, sym, ap, _∙_}
-use native.Mathlib.Nat.{suc-mul}
 use native.Mathlib.Omega.{arith}
 use lib.ListN.{length, length-append}
 use lib.Dec.{leb, eqb}
@@ -42,11 +41,12 @@ use Rattle.statements.specs.Operands.{itemOf, placeOf, constantBy, operandsOf, 
 use Rattle.statements.specs.Codes.{codeOf, codeByte}
 use Rattle.statements.specs.Places.{useOf, isRegister, baseOf, awayFrom, underBase, displacedBy, indexedBy, byRegister, operandOf, operandIn}
 use Rattle.statements.specs.Statements.{jumpOf, statementFrom}
-use Rattle.encode.specs.Pieces.{Piece, textOf, fieldsFrom, operandPieces, addressPieces, copied, piecesOf}
+use Rattle.encode.specs.Pieces.{Piece, textOf, fieldsFrom, operandPieces, addressPieces, piecesOf}
 use Rattle.encode.specs.Pieces.Piece.{plain, value}
 use Rattle.lines.specs.declared.Reading.{Reading}
 use Rattle.lines.specs.declared.Reading.the-variants.{Comment, BadName, Statement}
 use Rattle.lines.specs.Lines.{readingOf, operandIn as columns}
+use Rattle.encode.proofs.Laws.{text-append, plain-text, copied-size}
 use Rattle.passes.specs.declared.Course.{Course}
 use Rattle.passes.specs.One.{State, dataNo, readingNo, oneNo}
 use Rattle.passes.specs.Two.{constantPieces, shapePieces, linePieces, readingPieces, cardPieces}
@@ -56,12 +56,6 @@ use Rattle.theorems.proofs.Lines.{jumps, Told, line-told}
 
 -- PIECES
 
-pub text-append : (xs ys : List Piece) → textOf (xs ++ ys) ≡ textOf xs ++ textOf ys
-unfolding textOf
-text-append [] ys = refl
-text-append (plain b ∷ xs) ys = ap (λ t. b ∷ t) (text-append xs ys)
-text-append (value v ∷ xs) ys = ap (λ t. amountOf v / 256 % 256 ∷ amountOf v % 256 ∷ t) (text-append xs ys)
-
 joined-length : (xs ys : List Piece) → length (textOf (xs ++ ys)) ≡ length (textOf xs) + length (textOf ys)
 joined-length xs ys = ap length (text-append xs ys) ∙ length-append (textOf xs) (textOf ys)
 
@@ -70,20 +64,6 @@ pub some-text : (p : Piece) (ps : List Piece) → 1 ≤ length (textOf (p ∷ ps
 unfolding textOf
 some-text (plain b) ps = omega arith
 some-text (value v) ps = omega arith
-
--- bytes told by the columns are their own text
-pub plain-text : (t : List ℕ) → textOf (map plain t) ≡ t
-unfolding textOf
-plain-text [] = refl
-plain-text (b ∷ t) = ap (λ x. b ∷ x) (plain-text t)
-
-copied-length : (n : ℕ) (ps : List Piece) → length (textOf (copied n ps)) ≡ n * length (textOf ps)
-unfolding copied textOf
-copied-length zero ps = omega arith
-copied-length (suc n) ps =
-    let r = copied-length n ps in
-    let m = suc-mul n (length (textOf ps)) in
-    joined-length ps (copied n ps) ∙ omega arith
 
 -- "The 16-bit value is cut on the left for m = 1 and preceded by a zero byte for m = 3": m bytes
 address-length : (m : ℕ) (v : Value) → 1 ≤ m → m ≤ 3 → length (textOf (addressPieces m v)) ≡ m
@@ -169,7 +149,7 @@ module _ (look : ℕ → Entry) (here : ℕ) (bases : Bases) (o : List ℕ) wher
           let f = constant-fine d e in
           let l = fits-length d (f .fits) .1 in
           let most : longest (d .kind) ≡ 3 = ap longest k in
-          copied-length (d .copies) (addressPieces (d .length) v) ∙ ap (λ (n : ℕ). d .copies * n) (address-length (d .length) v (f .some) (omega arith))
+          copied-size (d .copies) (addressPieces (d .length) v) ∙ ap (λ (n : ℕ). d .copies * n) (address-length (d .length) v (f .some) (omega arith))
 
   -- the text of a card has the bytes of its form; that of DS none
   pub text-size : (op : Operation) (x : Shape) → Told op x → dataNo x ≡ 0

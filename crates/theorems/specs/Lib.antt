@@ -3,4 +3,5 @@ pub mod Grow
 pub mod Readable
 pub mod Sums
 pub mod Fields
+pub mod Raised
 pub mod Moved

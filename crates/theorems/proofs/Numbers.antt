@@ -1,0 +1,326 @@
+-- "Numbers of refusal": what the two passes refuse with is 9 to 24.
+use Prim.Native.Nat.{ℕ, suc, _+_, _≤_, _<_}
+use mathlib.Core.List.{List, [], _∷_}
+use mathlib.Core.Bool.{Bool, true, false}
+use mathlib.Core.Path.{_≡_, refl}
+use mathlib.Core.Logic.{_⊎_, inl, inr}
+use native.Mathlib.Omega.{arith}
+use lib.ListN.{length}
+use lib.Dec.{ltb, leb, eqb}
+use borrow.Author.Tests.{eqb-false}
+use Rattle.values.specs.Tests.{pick, orElse, lower}
+use Rattle.values.specs.declared.Value.{Value}
+use Rattle.names.specs.declared.Entry.{Entry}
+use Rattle.names.specs.Table.{amountOf}
+use Rattle.names.specs.declared.Entry.the-variants.{Known, Unknown as NotKnown}
+use Rattle.names.specs.Names.{find, refusalOf, nameRefusal}
+use Rattle.cards.specs.Fields.{allAccepted, byteNo}
+use Rattle.expressions.specs.declared.Wanted.{Wanted}
+use Rattle.expressions.specs.declared.Evaluated.{Evaluated}
+use Rattle.expressions.specs.declared.Evaluated.the-variants.{Good, Malformed, Undefined, WrongKind, OutOfRange}
+use Rattle.expressions.specs.Value.{suits, kindOf, refusalFor}
+use Rattle.operations.specs.declared.Operation.{Operation}
+use Rattle.operations.specs.declared.Operation.the-variants.{Unknown, Start, Equ, Org, Dc, Ds, Using, Drop, End, Decimal, Characters, Move, MoveOf, OneAddress, Branch, LoadAddress, BranchOn, Jump, JumpOn}
+use Rattle.operations.specs.Codes.{operationNo, nameNo}
+use Rattle.data.specs.declared.Data.{Data}
+use Rattle.data.specs.Sizes.{lengthFits, bytesNeeded, dataSize, constantNo, reserveNo}
+use Rattle.forms.specs.declared.Shape.{Shape}
+use Rattle.forms.specs.declared.Shape.the-variants.{Fails, Nothing, StartAt, Expression, Pair, Target, Two, One, Only, Constant, Reserve}
+use Rattle.forms.specs.Size.{sizeOf}
+use Rattle.statements.specs.declared.operands.Valued.{Valued}
+use Rattle.statements.specs.declared.operands.Place.{Place}
+use Rattle.statements.specs.declared.operands.Operands.{Operands}
+use Rattle.statements.specs.declared.codes.Code.{Code}
+use Rattle.statements.specs.declared.places.Bases.{Bases}
+use Rattle.statements.specs.declared.places.Placed.{Placed}
+use Rattle.statements.specs.declared.places.Use.{Use}
+use Rattle.statements.specs.Kinds.{firstWanted, itemNo, placeNo, addressWanted, expressionsNo}
+use Rattle.statements.specs.Codes.{codeOf, codeNo}
+use Rattle.statements.specs.Operands.{amountIn}
+use Rattle.statements.specs.Places.{useOf, isRegister, operandOf, placedNo, jumpCode, reachNo, useNo, placesNo}
+use Rattle.statements.specs.Statements.{numberOf}
+use Rattle.lines.specs.declared.Line.{Line}
+use Rattle.lines.specs.declared.Reading.{Reading}
+use Rattle.lines.specs.declared.Reading.the-variants.{Comment, BadName, Statement}
+use Rattle.lines.specs.Lines.{readingOf, shapeNo}
+use Rattle.passes.specs.declared.Role.{Role}
+use Rattle.passes.specs.declared.Phase.{Phase}
+use Rattle.passes.specs.declared.Course.{Course}
+use Rattle.passes.specs.declared.Checked.{Checked}
+use Rattle.passes.specs.declared.Checked.the-variants.{Clean, Bad}
+use Rattle.passes.specs.Cards.{roleOf, operandsAt, nameValue}
+use Rattle.passes.specs.One.{State, Passed, fresh, afterEndNo, startNo, againNo, mostNames, earlyBy, earlyNo, mFits, over, overNo, dataNo, valueNo, lineNo, readingNo, oneNo, stepOne, endedAs, passOne}
+use Rattle.passes.specs.One.Passed.{through, stopped}
+use Rattle.passes.specs.Two.{outset, readingTwoNo, twoNo, stepTwo, checkTwo}
+use Rattle.passes.specs.Assembly.{afterTwo, afterOne, assembled}
+use Rattle.passes.specs.Assembly.Result.{refused}
+
+-- none, or 9 to 24
+abbrev Number : ℕ → Type 0
+Number n = (n ≡ 0) ⊎ ((9 ≤ n) × (n ≤ 24))
+
+none : Number 0
+none = inl refl
+
+pick-number : (b : Bool) (m n : ℕ) → Number m → Number n → Number (pick b m n)
+pick-number true m n h k = h
+pick-number false m n h k = k
+
+or-number : (m n : ℕ) → Number m → Number n → Number (orElse m n)
+unfolding orElse
+or-number m n h k = pick-number (eqb m 0) n m k h
+
+lower-number : (m n : ℕ) → Number m → Number n → Number (lower m n)
+unfolding lower
+lower-number m n h k = pick-number (eqb m 0) n _ k (pick-number (eqb n 0) m _ h (pick-number (ltb m n) m n h k))
+
+one : (n : ℕ) → 9 ≤ n → n ≤ 24 → Number n
+one n l u = inr (l, u)
+
+-- PASS TWO
+
+wanted : (w : Wanted) (e : Evaluated) → Number (refusalFor w e)
+wanted w (Good v) = pick-number (suits w (kindOf v)) 0 19 none (one 19 (omega arith) (omega arith))
+wanted w Malformed = one 15 (omega arith) (omega arith)
+wanted w Undefined = one 18 (omega arith) (omega arith)
+wanted w WrongKind = one 19 (omega arith) (omega arith)
+wanted w (OutOfRange k) = pick-number (suits w k) 20 19 (one 20 (omega arith) (omega arith)) (one 19 (omega arith) (omega arith))
+
+item : (v : Valued) → Number (itemNo v)
+item Valued.Absent = none
+item (Valued.Of e) = wanted Wanted.OnlyAbsolute e
+
+place : (p : Place) → Number (placeNo p)
+place p = lower-number _ _ (wanted Wanted.Any (p .address)) (lower-number _ _ (item (p .length)) (item (p .register)))
+
+expressions : (op : Operation) (x : Operands) → Number (expressionsNo op x)
+unfolding expressionsNo
+expressions op (Operands.Two a b) = lower-number _ _ (place a) (place b)
+expressions op (Operands.One a q) = lower-number _ _ (place a) (wanted Wanted.OnlyAbsolute q)
+expressions op (Operands.Only a) = place a
+expressions op (Operands.Pair e q) = lower-number _ _ (wanted (firstWanted op) e) (wanted Wanted.OnlyAbsolute q)
+expressions op (Operands.Lone e) = wanted (firstWanted op) e
+expressions op (Operands.Addresses n m e) = wanted (addressWanted m) e
+expressions op Operands.None = none
+
+code : (c : Code) → Number (codeNo c)
+code (Code.Byte b) = none
+code Code.OutOfRange = one 21 (omega arith) (omega arith)
+
+placed : (p : Placed) → Number (placedNo p)
+placed (Placed.At x) = none
+placed Placed.NoBase = one 22 (omega arith) (omega arith)
+placed Placed.OutOfReach = one 23 (omega arith) (omega arith)
+
+reach : (c : Code) → Number (reachNo c)
+reach (Code.Byte b) = none
+reach Code.OutOfRange = one 23 (omega arith) (omega arith)
+
+used : (u : Use) (here : ℕ) (first last : Evaluated) → Number (useNo u here first last)
+used Use.Jumps here first last = reach (jumpCode here _)
+used Use.Registers here first last = pick-number (isRegister (amountIn last)) 0 22 none (one 22 (omega arith) (omega arith))
+used Use.Nothing here first last = none
+
+places : (u : Use) (x : Operands) (here : ℕ) (bases : Bases) → Number (placesNo u x here bases)
+unfolding placesNo
+places u (Operands.Two a b) here bases = lower-number _ _ (placed (operandOf bases a)) (placed (operandOf bases b))
+places u (Operands.One a q) here bases = placed (operandOf bases a)
+places u (Operands.Only a) here bases = placed (operandOf bases a)
+places u (Operands.Pair e last) here bases = used u here e last
+places u (Operands.Lone e) here bases = used u here e e
+places u (Operands.Addresses n m e) here bases = none
+places u Operands.None here bases = none
+
+two-number : (look : ℕ → Entry) (c : Course) (s : List ℕ) → Number (twoNo look c s)
+unfolding twoNo numberOf
+two-number look c s = go (readingOf s)
+  where
+    go : (x : Reading) → Number (readingTwoNo look c s x)
+    go Comment = none
+    go BadName = none
+    go (Statement l) =
+        let x = operandsAt look (c .counter) s l in
+        or-number _ _ (expressions (l .operation) x) (or-number _ _ (code (codeOf (l .operation) x)) (places (useOf (l .operation)) x (c .counter) (c .bases)))
+
+-- PASS ONE
+
+after : (p : Phase) → Number (afterEndNo p)
+after Phase.Before = none
+after Phase.Within = none
+after Phase.Ended = one 9 (omega arith) (omega arith)
+
+again : (r : Role) → Number (againNo r)
+again Role.Starts = one 13 (omega arith) (omega arith)
+again Role.Equates = none
+again Role.SetsCounter = none
+again Role.Ends = none
+again Role.Makes = none
+
+start : (p : Phase) (r : Role) → Number (startNo p r)
+start Phase.Before Role.Starts = none
+start Phase.Before Role.Equates = one 13 (omega arith) (omega arith)
+start Phase.Before Role.SetsCounter = one 13 (omega arith) (omega arith)
+start Phase.Before Role.Ends = one 13 (omega arith) (omega arith)
+start Phase.Before Role.Makes = one 13 (omega arith) (omega arith)
+start Phase.Within r = again r
+start Phase.Ended r = again r
+
+named : (op : Operation) (name : ℕ) → Number (operationNo op) × Number (nameNo op name)
+named Unknown name = (one 12 (omega arith) (omega arith), none)
+named Start name = (none, none)
+named Equ name = (none, pick-number (eqb name 0) 14 0 (one 14 (omega arith) (omega arith)) none)
+named Org name = (none, pick-number (eqb name 0) 0 14 none (one 14 (omega arith) (omega arith)))
+named Dc name = (none, none)
+named Ds name = (none, none)
+named Using name = (none, pick-number (eqb name 0) 0 14 none (one 14 (omega arith) (omega arith)))
+named Drop name = (none, pick-number (eqb name 0) 0 14 none (one 14 (omega arith) (omega arith)))
+named End name = (none, pick-number (eqb name 0) 0 14 none (one 14 (omega arith) (omega arith)))
+named (Decimal low) name = (none, none)
+named (Characters low) name = (none, none)
+named Move name = (none, none)
+named (MoveOf i) name = (none, none)
+named (OneAddress low) name = (none, none)
+named (Branch low) name = (none, none)
+named LoadAddress name = (none, none)
+named (BranchOn q) name = (none, none)
+named Jump name = (none, none)
+named (JumpOn q) name = (none, none)
+
+constant : (d : Data) → Number (constantNo d)
+unfolding constantNo
+constant d =
+    let no = one 21 (omega arith) (omega arith) in
+    pick-number (lengthFits d) _ 21
+    (pick-number (ltb 256 (d .copies)) 21 _ no (pick-number (ltb (d .length) (bytesNeeded d)) 21 _ no (pick-number (ltb 256 (dataSize d)) 21 0 no none)))
+    no
+
+reserve : (d : Data) → Number (reserveNo d)
+unfolding reserveNo
+reserve d =
+    let no = one 21 (omega arith) (omega arith) in
+    pick-number (lengthFits d) _ 21 (pick-number (ltb 65535 (d .copies)) 21 0 no none) no
+
+-- 15 and 21, by the shape
+shaped : (x : Shape) → Number (shapeNo x) × Number (dataNo x)
+shaped (Fails q) = (one 15 (omega arith) (omega arith), none)
+shaped Nothing = (none, none)
+shaped (StartAt v) = (none, none)
+shaped Expression = (none, none)
+shaped (Pair p) = (none, none)
+shaped Target = (none, none)
+shaped (Two a b) = (none, none)
+shaped (One a p) = (none, none)
+shaped (Only a) = (none, none)
+shaped (Constant d) = (none, constant d)
+shaped (Reserve d) = (none, reserve d)
+
+new : (st : State) (name : ℕ) → Number (nameRefusal mostNames (st .names) name)
+unfolding nameRefusal
+new st name = go (find (st .names) name)
+  where
+    go : (e : Entry) → Number (refusalOf mostNames (length (st .names)) e)
+    go (Known v l) = one 16 (omega arith) (omega arith)
+    go NotKnown = pick-number (ltb (length (st .names)) mostNames) 0 17 none (one 17 (omega arith) (omega arith))
+
+early : (r : Role) (op : Operation) (x : Operands) → Number (earlyBy r op x)
+early Role.Starts op x = none
+early Role.Equates op x = expressions op x
+early Role.SetsCounter op x = expressions op x
+early Role.Ends op x = none
+early Role.Makes op x = none
+
+high : (v : Value) → Number (over v)
+high v = pick-number (leb (amountOf v) 65535) 0 20 none (one 20 (omega arith) (omega arith))
+
+value-number : (st : State) (s : List ℕ) (l : Line) → Number (valueNo st s l)
+unfolding valueNo earlyNo overNo
+value-number st s l =
+    or-number _ _ (pick-number (eqb (l .name) 0) 0 _ none (new st (l .name)))
+    (or-number _ _ (early (roleOf (l .operation)) (l .operation) (operandsAt (find (st .names)) (st .counter) s l))
+    (or-number _ _
+    (pick-number (eqb (l .name) 0) 0 _ none (pick-number (mFits (l .shape)) _ 0 (high (nameValue (find (st .names)) (st .counter) s l)) none))
+    (or-number _ _ (shaped (l .shape) .1)
+    (pick-number (leb (st .counter + sizeOf (l .operation) (l .shape)) 65536) 0 24 none (one 24 (omega arith) (omega arith))))))
+
+line-number : (st : State) (s : List ℕ) (l : Line) → Number (lineNo st s l)
+unfolding lineNo
+line-number st s l =
+    let names = named (l .operation) (l .name) in
+    or-number _ _ (names .0)
+    (or-number _ _ (start (st .phase) (roleOf (l .operation)))
+    (or-number _ _ (names .1) (or-number _ _ (shaped (l .shape) .0) (value-number st s l))))
+
+one-number : (st : State) (s : List ℕ) → Number (oneNo st s)
+unfolding oneNo byteNo
+one-number st s = or-number _ _ (after (st .phase)) (or-number _ _ (pick-number (allAccepted s) 0 10 none (one 10 (omega arith) (omega arith))) (go (readingOf s)))
+  where
+    go : (x : Reading) → Number (readingNo st s x)
+    go Comment = none
+    go BadName = one 11 (omega arith) (omega arith)
+    go (Statement l) = line-number st s l
+
+-- BOTH PASSES: the number, and the card, which is 0 or one of theirs
+
+told : (n : ℕ) → Number n → (n ≡ 0 → ⊥) → (9 ≤ n) × (n ≤ 24)
+told n (inl e) h = absurd (h e)
+told n (inr h) k = h
+
+module _ (number card : ℕ) where
+  pass-number : (ss : List (List ℕ)) (k : ℕ) (st : State) → 1 ≤ k → passOne k st ss ≡ stopped number card → (9 ≤ number) × (number ≤ 24) × (card < k + length ss)
+  unfolding passOne
+  pass-number [] k st some h = go (st .phase) h
+    where
+      no-end : (number ≡ 9) → (card ≡ 0) → (9 ≤ number) × (number ≤ 24) × (card < k + 0)
+      no-end e f = (omega arith, omega arith, omega arith)
+
+      go : (p : Phase) → endedAs p st ≡ stopped number card → (9 ≤ number) × (number ≤ 24) × (card < k + 0)
+      go Phase.Before h = no-end (cc) (cc)
+      go Phase.Within h = no-end (cc) (cc)
+      go Phase.Ended h = let z : _≡_ {A = ℕ} 0 1 = cc in absurd (omega arith)
+  pass-number (s ∷ ss) k st some h = go (eqb (oneNo st s) 0) refl h (pass-number ss (k + 1) (stepOne st s) (omega arith))
+    where
+      go : (b : Bool) → eqb (oneNo st s) 0 ≡ b → pick b (passOne (k + 1) (stepOne st s) ss) (stopped (oneNo st s) k) ≡ stopped number card
+          → (passOne (k + 1) (stepOne st s) ss ≡ stopped number card → (9 ≤ number) × (number ≤ 24) × (card < k + 1 + length ss))
+          → (9 ≤ number) × (number ≤ 24) × (card < k + suc (length ss))
+      go true e h ih = let r = ih h in (r .0, r .1, omega arith)
+      go false e h ih =
+          let is : oneNo st s ≡ number = cc in
+          let at : k ≡ card = cc in
+          let r = told (oneNo st s) (one-number st s) (eqb-false (oneNo st s) 0 e) in
+          (omega arith, omega arith, omega arith)
+
+  check-number : (look : ℕ → Entry) (ss : List (List ℕ)) (k : ℕ) (c : Course) → checkTwo look k c ss ≡ Bad number card → (9 ≤ number) × (number ≤ 24) × (card < k + length ss)
+  unfolding checkTwo
+  check-number look [] k c h = let z : _≡_ {A = ℕ} 0 1 = cc in absurd (omega arith)
+  check-number look (s ∷ ss) k c h = go (eqb (twoNo look c s) 0) refl h (check-number look ss (k + 1) (stepTwo look c s))
+    where
+      go : (b : Bool) → eqb (twoNo look c s) 0 ≡ b → pick b (checkTwo look (k + 1) (stepTwo look c s) ss) (Bad (twoNo look c s) k) ≡ Bad number card
+          → (checkTwo look (k + 1) (stepTwo look c s) ss ≡ Bad number card → (9 ≤ number) × (number ≤ 24) × (card < k + 1 + length ss))
+          → (9 ≤ number) × (number ≤ 24) × (card < k + suc (length ss))
+      go true e h ih = let r = ih h in (r .0, r .1, omega arith)
+      go false e h ih =
+          let is : twoNo look c s ≡ number = cc in
+          let at : k ≡ card = cc in
+          let r = told (twoNo look c s) (two-number look c s) (eqb-false (twoNo look c s) 0 e) in
+          (omega arith, omega arith, omega arith)
+
+-- what the cards of a source are refused with: 9 to 24, and a card that is one of them, or 0
+pub cards-number : (ss : List (List ℕ)) (number card : ℕ) → assembled ss ≡ refused number card → (9 ≤ number) × (number ≤ 24) × (card ≤ length ss)
+unfolding assembled
+cards-number ss number card h = first (passOne 1 fresh ss) refl h
+  where
+    second : (st : State) (x : Checked) → checkTwo (find (st .names)) 1 outset ss ≡ x → afterTwo ss (st .names) x ≡ refused number card → (9 ≤ number) × (number ≤ 24) × (card ≤ length ss)
+    second st Clean two h = let z : _≡_ {A = ℕ} 0 1 = cc in absurd (omega arith)
+    second st (Bad n k) two h =
+        let e : n ≡ number = cc in
+        let f : k ≡ card = cc in
+        let r = check-number n k (find (st .names)) ss 1 outset two in
+        (omega arith, omega arith, omega arith)
+
+    first : (p : Passed) → passOne 1 fresh ss ≡ p → afterOne ss p ≡ refused number card → (9 ≤ number) × (number ≤ 24) × (card ≤ length ss)
+    first (through st) one h = second st (checkTwo (find (st .names)) 1 outset ss) refl h
+    first (stopped n k) one h =
+        let e : n ≡ number = cc in
+        let f : k ≡ card = cc in
+        let r = pass-number n k ss 1 fresh (omega arith) one in
+        (omega arith, omega arith, omega arith)

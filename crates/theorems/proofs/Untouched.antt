@@ -1,0 +1,273 @@
+-- REFUSED MEANS UNTOUCHED. Assembling: "Output past the book is unchanged; all of it is on a refusal. The first 8,192 bytes of the work area are zero after every answer
+-- but 1, 2 and 3, which leave it untouched; bytes beyond them never change." Loading: a refusal stores nothing; "Storage counts up to 65,536 bytes".
+-- Printing: "writes REFUSED 50 and nothing else".
+use Prim.Native.Nat.{ℕ, _+_, _≤_, _<_}
+use mathlib.Core.List.{List, [], _∷_, _++_, List·Memᴰ}
+use mathlib.Core.List.List·Memᴰ.{List·Memᴰ·head, List·Memᴰ·tail}
+use mathlib.Core.Bool.{Bool, true, false}
+use mathlib.Core.Option.{none, some}
+use mathlib.Core.Path.{_≡_, refl, ap, _∙_}
+use mathlib.Core.Logic.{_⊎_, inl, inr}
+use native.Mathlib.Omega.{arith}
+use lib.ListN.{length, getD, drop, replicate, length-append, length-drop, length-replicate, getD-replicate, List·getD-append}
+use lib.Dec.{leb}
+use borrow.Author.Tests.{ltb-false, le-ltb, leb-true}
+use Rattle.values.specs.Tests.{pick}
+use Rattle.values.proofs.Laws.{both-true}
+use lib.Seq.{sets, length-sets, drop-at}
+use Rattle.values.specs.declared.Displacement.{Displacement}
+use Rattle.names.specs.Table.{zeroed}
+use Rattle.book.specs.declared.Entry.{Entry}
+use Rattle.book.specs.Book.{Record, Book, recordsFrom, headerOk, entryAt, withEntry, bookOf}
+use Rattle.book.specs.Writing.{bookBytes}
+use Rattle.cards.specs.Source.{cardsOf}
+use Rattle.passes.specs.declared.Assembled.the-variants.{Made, Refused}
+use Rattle.passes.specs.Assembly.{workSize, Outcome, assembling}
+use Rattle.book.specs.Writing.{fairAll}
+use Rattle.fields.specs.Fields.{movedText}
+use Rattle.fields.proofs.Laws.{moved-length}
+use Rattle.load.specs.declared.Loaded.the-variants.{Stored}
+use Rattle.load.specs.Load.{Outcome as LoadOutcome, stored, storedAll, bytesStored, firstCard, outside, roomIn, loading}
+use Rattle.load.proofs.Laws.{none-fails}
+use Rattle.print.specs.Print.{headerLine, recordLines, refused50, linesOf, printed, whereRoom}
+use Rattle.print.proofs.Laws.{header-length, no-room}
+use Rattle.theorems.proofs.Stores.{sets-other, drop-sets}
+use Rattle.theorems.proofs.Numbers.{cards-number}
+use Rattle.theorems.proofs.Loads.{Load, load, read-fair, fair-first}
+use Rattle.theorems.proofs.Loads.Load.{isBroken, isOutside, isOver, isEntryOver, isStored}
+use Rattle.theorems.proofs.Called.{Way, way}
+use Rattle.theorems.proofs.Called.Way.{atOnce, byCards, tooLong, whole}
+
+-- ZERO IN FRONT, as it was behind
+
+zeroed-front : (n : ℕ) (t : List ℕ) (i x : ℕ) → i < n → getD (zeroed n t) i x ≡ 0
+unfolding zeroed
+zeroed-front n t i x h =
+    let l : length {A = ℕ} (replicate n 0) ≡ n = length-replicate n 0 in
+    List·getD-append (replicate n 0) (drop n t) x i (omega arith) ∙ getD-replicate n i 0 x h
+
+zeroed-beyond : (n : ℕ) (t : List ℕ) → drop n (zeroed n t) ≡ drop n t
+unfolding zeroed
+zeroed-beyond n t = drop-at (replicate n 0) (drop n t) n (length-replicate n 0)
+
+zeroed-length : (n : ℕ) (t : List ℕ) → n ≤ length t → length (zeroed n t) ≡ length t
+unfolding zeroed
+zeroed-length n t h = simp (length-append, length-replicate, length-drop) (omega arith)
+
+-- ASSEMBLING
+
+module _ (width : ℕ) (source work out : List ℕ) where
+  abbrev after : Outcome
+  after = assembling width source work out
+
+  -- the whole output is unchanged on a refusal
+  pub refused-output : (number card : ℕ) → after .answer ≡ Refused number card → after .out ≡ out
+  refused-output number card h = go (way width source work out)
+    where
+      go : Way width source work out → after .out ≡ out
+      go (atOnce n l u e) = ap (λ (x : Outcome). x .out) e
+      go (byCards w few n k f e) = ap (λ (x : Outcome). x .out) e
+      go (tooLong w n b f l e) = ap (λ (x : Outcome). x .out) e
+      go (whole w n b few f l e) = let z : _≡_ {A = ℕ} 0 1 = cc in absurd (omega arith)
+
+  -- past the book it is unchanged
+  pub past-the-book : (bytes names : ℕ) → after .answer ≡ Made bytes names → drop bytes (after .out) ≡ drop bytes out
+  past-the-book bytes names h = go (way width source work out)
+    where
+      go : Way width source work out → drop bytes (after .out) ≡ drop bytes out
+      go (atOnce n l u e) = let z : _≡_ {A = ℕ} 0 1 = cc in absurd (omega arith)
+      go (byCards w few n k f e) = let z : _≡_ {A = ℕ} 0 1 = cc in absurd (omega arith)
+      go (tooLong w n b f l e) = let z : _≡_ {A = ℕ} 0 1 = cc in absurd (omega arith)
+      go (whole w n b few f l e) =
+          let size : bytes ≡ length (bookBytes b) = cc in
+          ap (λ (x : Outcome). drop bytes (x .out)) e ∙ drop-sets out 0 (bookBytes b) bytes (omega arith)
+
+  -- the output keeps its length
+  pub output-length : length (after .out) ≡ length out
+  output-length = go (way width source work out)
+    where
+      go : Way width source work out → length (after .out) ≡ length out
+      go (atOnce n l u e) = ap (λ (x : Outcome). length (x .out)) e
+      go (byCards w few n k f e) = ap (λ (x : Outcome). length (x .out)) e
+      go (tooLong w n b f l e) = ap (λ (x : Outcome). length (x .out)) e
+      go (whole w n b few f l e) = ap (λ (x : Outcome). length (x .out)) e ∙ length-sets out 0 (bookBytes b)
+
+  -- 1, 2 and 3 leave the work area untouched
+  pub early-work : (number card : ℕ) → after .answer ≡ Refused number card → number ≤ 3 → after .work ≡ work
+  early-work number card h low = go (way width source work out)
+    where
+      go : Way width source work out → after .work ≡ work
+      go (atOnce n l u e) = ap (λ (x : Outcome). x .work) e
+      go (byCards w few n k f e) =
+          let is : n ≡ number = cc in
+          let high = cards-number (cardsOf width source) n k f .0 in
+          absurd (omega arith)
+      go (tooLong w n b f l e) = let is : _≡_ {A = ℕ} 30 number = cc in absurd (omega arith)
+      go (whole w n b few f l e) = let z : _≡_ {A = ℕ} 0 1 = cc in absurd (omega arith)
+
+  -- after every other answer its first 8,192 bytes are zero
+  pub late-work : ((number card : ℕ) → after .answer ≡ Refused number card → 3 < number) → (i x : ℕ) → i < workSize → getD (after .work) i x ≡ 0
+  late-work late i x h = go (way width source work out)
+    where
+      go : Way width source work out → getD (after .work) i x ≡ 0
+      go (atOnce n l u e) = let high = late n 0 (ap (λ (x : Outcome). x .answer) e) in absurd (omega arith)
+      go (byCards w few n k f e) = ap (λ (o : Outcome). getD (o .work) i x) e ∙ zeroed-front workSize work i x h
+      go (tooLong w n b f l e) = ap (λ (o : Outcome). getD (o .work) i x) e ∙ zeroed-front workSize work i x h
+      go (whole w n b few f l e) = ap (λ (o : Outcome). getD (o .work) i x) e ∙ zeroed-front workSize work i x h
+
+  -- beyond them it never changes
+  pub work-beyond : drop workSize (after .work) ≡ drop workSize work
+  work-beyond = go (way width source work out)
+    where
+      go : Way width source work out → drop workSize (after .work) ≡ drop workSize work
+      go (atOnce n l u e) = ap (λ (x : Outcome). drop workSize (x .work)) e
+      go (byCards w few n k f e) = ap (λ (x : Outcome). drop workSize (x .work)) e ∙ zeroed-beyond workSize work
+      go (tooLong w n b f l e) = ap (λ (x : Outcome). drop workSize (x .work)) e ∙ zeroed-beyond workSize work
+      go (whole w n b few f l e) = ap (λ (x : Outcome). drop workSize (x .work)) e ∙ zeroed-beyond workSize work
+
+  pub work-length : length (after .work) ≡ length work
+  work-length = go (way width source work out)
+    where
+      go : Way width source work out → length (after .work) ≡ length work
+      go (atOnce n l u e) = ap (λ (x : Outcome). length (x .work)) e
+      go (byCards w few n k f e) = ap (λ (x : Outcome). length (x .work)) e ∙ zeroed-length workSize work w
+      go (tooLong w n b f l e) = ap (λ (x : Outcome). length (x .work)) e ∙ zeroed-length workSize work w
+      go (whole w n b few f l e) = ap (λ (x : Outcome). length (x .work)) e ∙ zeroed-length workSize work w
+
+  -- "Numbers of refusal": 1 to 3, 9 to 24, 30; the card is one of the source's, and 0 for 1, 2, 3 and 30
+  pub refusal-numbers : (number card : ℕ) → after .answer ≡ Refused number card
+      → ((1 ≤ number) × (number ≤ 3) × (card ≡ 0)) ⊎ (((9 ≤ number) × (number ≤ 24) × (card ≤ length (cardsOf width source))) ⊎ ((number ≡ 30) × (card ≡ 0)))
+  refusal-numbers number card h = go (way width source work out)
+    where
+      go : Way width source work out
+          → ((1 ≤ number) × (number ≤ 3) × (card ≡ 0)) ⊎ (((9 ≤ number) × (number ≤ 24) × (card ≤ length (cardsOf width source))) ⊎ ((number ≡ 30) × (card ≡ 0)))
+      go (atOnce n l u e) =
+          let is : n ≡ number = cc in
+          let at : card ≡ 0 = cc in
+          inl (omega arith, omega arith, at)
+      go (byCards w few n k f e) =
+          let is : n ≡ number = cc in
+          let at : k ≡ card = cc in
+          let r = cards-number (cardsOf width source) n k f in
+          inr (inl (omega arith, omega arith, omega arith))
+      go (tooLong w n b f l e) = inr (inr (cc, cc))
+      go (whole w n b few f l e) = let z : _≡_ {A = ℕ} 0 1 = cc in absurd (omega arith)
+
+-- LOADING
+
+-- a record's text, moved or not, is as long as it was
+module _ (d : ℕ) where
+  -- a place that lies outside the text of every record, d higher
+  abbrev pub OutsideAll : ℕ → List Record → Type 0
+  OutsideAll i rs = (r : Record) → List·Memᴰ r rs → (i < r .address + d) ⊎ (r .address + d + length (r .text) ≤ i)
+
+  stored-other : (rs : List Record) (m : List ℕ) (i : ℕ) → OutsideAll i rs → getD (storedAll d rs m) i 0 ≡ getD m i 0
+  unfolding storedAll stored
+  stored-other [] m i h = refl
+  stored-other (r ∷ rs) m i h =
+      stored-other rs (sets m (r .address + d) (movedText d r)) i (λ q x. h q (List·Memᴰ·tail x))
+      ∙ sets-other m (r .address + d) (movedText d r) i (rw (moved-length d (r .text) (r .fields) (r .text)) (h r (List·Memᴰ·head refl)))
+
+  stored-length : (rs : List Record) (m : List ℕ) → length (storedAll d rs m) ≡ length m
+  unfolding storedAll stored
+  stored-length [] m = refl
+  stored-length (r ∷ rs) m = stored-length rs (sets m (r .address + d) (movedText d r)) ∙ length-sets m (r .address + d) (movedText d r)
+
+  -- where every record lies inside the room, nothing behind the room changes
+  stored-beyond : (room : ℕ) (rs : List Record) (m : List ℕ) (last : ℕ) → fairAll last rs ≡ true → firstCard (outside d room) rs ≡ 0 → (n : ℕ) → room ≤ n
+      → drop n (storedAll d rs m) ≡ drop n m
+  unfolding storedAll stored
+  stored-beyond room [] m last f e n h = refl
+  stored-beyond room (r ∷ rs) m last f e n h =
+      let (is, others) = fair-first last r rs f in
+      let rise = is .rise in
+      let (inside, rest) = none-fails (outside d room) r rs (omega arith) e in
+      let ends = ltb-false room (r .address + d + length (r .text)) inside in
+      let size = moved-length d (r .text) (r .fields) (r .text) in
+      stored-beyond room rs (sets m (r .address + d) (movedText d r)) (r .card) others rest n h
+      ∙ drop-sets m (r .address + d) (movedText d r) n (omega arith)
+
+module _ (s : List ℕ) (d : Displacement) (m : List ℕ) where
+  abbrev loaded : LoadOutcome
+  loaded = loading s d m
+
+  -- storage is unchanged on a refusal, 50, 51 and 52 alike
+  pub refused-storage : ((bytes : ℕ) (at : Entry) → loaded .answer ≡ Stored bytes at → ⊥) → loaded .storage ≡ m
+  refused-storage no-load = go (load s d m)
+    where
+      go : Load s d m → loaded .storage ≡ m
+      go (isBroken f e) = ap (λ (x : LoadOutcome). x .storage) e
+      go (isOutside b f e) = ap (λ (x : LoadOutcome). x .storage) e
+      go (isOver b f e) = ap (λ (x : LoadOutcome). x .storage) e
+      go (isEntryOver b f e) = ap (λ (x : LoadOutcome). x .storage) e
+      go (isStored b f i u at l e) = absurd (no-load (bytesStored (b .records)) at (ap (λ (x : LoadOutcome). x .answer) e))
+
+  -- bytes behind 65,536 never change
+  pub storage-beyond : drop 65536 (loaded .storage) ≡ drop 65536 m
+  storage-beyond = go (load s d m)
+    where
+      go : Load s d m → drop 65536 (loaded .storage) ≡ drop 65536 m
+      go (isBroken f e) = ap (λ (x : LoadOutcome). drop 65536 (x .storage)) e
+      go (isOutside b f e) = ap (λ (x : LoadOutcome). drop 65536 (x .storage)) e
+      go (isOver b f e) = ap (λ (x : LoadOutcome). drop 65536 (x .storage)) e
+      go (isEntryOver b f e) = ap (λ (x : LoadOutcome). drop 65536 (x .storage)) e
+      go (isStored b f i u at l e) =
+          ap (λ (x : LoadOutcome). drop 65536 (x .storage)) e ∙ stored-beyond (d .0) (roomIn m) (b .records) m 0 (read-fair s b f) i 65536 (omega arith)
+
+  -- bytes outside the place of every record of the book never change
+  pub storage-other : (i : ℕ) → ((b : Book) → bookOf s ≡ some b → OutsideAll (d .0) i (b .records)) → getD (loaded .storage) i 0 ≡ getD m i 0
+  storage-other i out = go (load s d m)
+    where
+      go : Load s d m → getD (loaded .storage) i 0 ≡ getD m i 0
+      go (isBroken f e) = ap (λ (x : LoadOutcome). getD (x .storage) i 0) e
+      go (isOutside b f e) = ap (λ (x : LoadOutcome). getD (x .storage) i 0) e
+      go (isOver b f e) = ap (λ (x : LoadOutcome). getD (x .storage) i 0) e
+      go (isEntryOver b f e) = ap (λ (x : LoadOutcome). getD (x .storage) i 0) e
+      go (isStored b f j u at l e) = ap (λ (x : LoadOutcome). getD (x .storage) i 0) e ∙ stored-other (d .0) (b .records) m i (out b f)
+
+  -- storage keeps its length
+  pub storage-length : length (loaded .storage) ≡ length m
+  storage-length = go (load s d m)
+    where
+      go : Load s d m → length (loaded .storage) ≡ length m
+      go (isBroken f e) = ap (λ (x : LoadOutcome). length (x .storage)) e
+      go (isOutside b f e) = ap (λ (x : LoadOutcome). length (x .storage)) e
+      go (isOver b f e) = ap (λ (x : LoadOutcome). length (x .storage)) e
+      go (isEntryOver b f e) = ap (λ (x : LoadOutcome). length (x .storage)) e
+      go (isStored b f i u at l e) = ap (λ (x : LoadOutcome). length (x .storage)) e ∙ stored-length (d .0) (b .records) m
+
+-- PRINTING
+
+-- "writes REFUSED 50 and nothing else"
+pub printed-50 : (s : List ℕ) → length s ≤ 65536 → bookOf s ≡ none → printed s ≡ refused50
+unfolding printed
+printed-50 s h e = rw (le-ltb 65536 (length s) h) (ap (linesOf s) e)
+
+-- a book's lines: the header's and one for each record
+pub printed-book : (s : List ℕ) (b : Book) → length s ≤ 65536 → bookOf s ≡ some b → printed s ≡ headerLine s ++ recordLines (b .records)
+unfolding printed
+printed-book s b h e = rw (le-ltb 65536 (length s) h) (ap (linesOf s) e)
+
+-- they are longer than a refusal, so that what is printed tells whether the book was refused
+pub told-apart : (s : List ℕ) (b : Book) → length s ≤ 65536 → bookOf s ≡ some b → length refused50 < length (printed s)
+unfolding bookOf headerOk
+told-apart s b h e =
+    let l = header-length s (go (headerOk s) refl e) in
+    let n = length-append (headerLine s) (recordLines (b .records)) in
+    rw (printed-book s b h e) (omega arith)
+  where
+    go : (x : Bool) → headerOk s ≡ x → pick x (withEntry (entryAt s) (recordsFrom (length s) s 8 0)) none ≡ some b → 8 ≤ length s
+    go true f e = leb-true 8 (length s) (both-true (leb 8 (length s)) _ f .0)
+    go false f e = let z : _≡_ {A = ℕ} 0 1 = cc in absurd (omega arith)
+
+-- a lent buffer behind what is printed is as it was, and so is the whole of one that is too short
+pub buffer-behind : (bytes m : List ℕ) → drop (length bytes) (whereRoom bytes m) ≡ drop (length bytes) m
+unfolding whereRoom
+buffer-behind bytes m = go (leb (length bytes) (length m))
+  where
+    go : (b : Bool) → drop (length bytes) (pick b (sets m 0 bytes) m) ≡ drop (length bytes) m
+    go true = drop-sets m 0 bytes (length bytes) (omega arith)
+    go false = refl
+
+pub buffer-short : (bytes m : List ℕ) → length m < length bytes → whereRoom bytes m ≡ m
+buffer-short bytes m h = no-room bytes m h
