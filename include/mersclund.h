@@ -134,7 +134,6 @@ static inline uint16_t mersclund_entry(uint64_t answer)
     return (uint16_t)(answer >> 32 & 0xFFFF);
 }
 
-#ifdef MERSCLUND_HAS_ASSEMBLE /* defined where the library has this call, which it hasn't yet */
 /*
  * Assembles cards into a book.
  *
@@ -153,7 +152,6 @@ uint64_t mersclund_assemble(uint32_t width,
                             const uint8_t *source, size_t source_len,
                             uint8_t *work, size_t work_len,
                             uint8_t *out, size_t out_len);
-#endif
 
 /*
  * Loads a book into storage.

@@ -30,12 +30,7 @@ static uint64_t made(uint32_t call, uint32_t argument, uint8_t *lent, const size
 
     if (call == LOAD)
         return mersclund_load(first, length[0], (uint16_t)argument, second, length[1]);
-#ifdef MERSCLUND_HAS_ASSEMBLE
     return mersclund_assemble(argument, first, length[0], second, length[1], third, length[2]);
-#else
-    (void)third;
-    return 0;
-#endif
 }
 
 /* Writes the answer and the bytes; returns 0 if that fails. */
