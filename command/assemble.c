@@ -33,7 +33,7 @@ static enum status tell(const struct input *file, const struct deck *deck, uint6
     unsigned number = mersclund_refusal(answer), card = mersclund_card(answer);
 
     tell_refusal(file->name, number, card);
-    if (card > 0)
+    if (card > 0 && (size_t)card * deck->width <= deck->length)
         tell_card(deck->cards + (size_t)(card - 1) * deck->width, deck->width);
     if (deck->length == 0)
         fprintf(stderr, "The deck is empty.\n");
