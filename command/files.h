@@ -16,7 +16,7 @@ struct input {
     uint64_t device, file;
 };
 
-/* Says whether the word stands for standard input or output. */
+/* Says whether the word stands for standard input or output: "-", or its name as a device. */
 int is_standard(const char *path);
 
 /* Reads a file, or standard input for "-". Of one longer than `most` bytes, most + 1 are read. */

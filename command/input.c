@@ -10,7 +10,8 @@
 
 int is_standard(const char *path)
 {
-    return strcmp(path, "-") == 0;
+    return strcmp(path, "-") == 0 || strcmp(path, "/dev/stdin") == 0 ||
+           strcmp(path, "/dev/stdout") == 0;
 }
 
 static enum status unreadable(const struct input *input)

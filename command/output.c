@@ -57,16 +57,23 @@ static mode_t permissions(const struct statx *old)
     return 0666 & ~mask;
 }
 
-/* Fills the new file and sees it safe on its disk; answers 0, or -1 with errno set. */
+/* Sees the file safe on its disk, where the disk can tell. */
+static int settle(int file)
+{
+    return fsync(file) != 0 && errno != EINVAL ? -1 : 0;
+}
+
+/* Fills the new file and closes it; answers 0, or -1 with errno set. */
 static int fill(int to, const struct statx *old, const uint8_t *bytes, size_t length)
 {
-    /* Another owner is kept where that is allowed. */
-    int kept = old != NULL && fchown(to, old->stx_uid, old->stx_gid) == 0;
-    int wrong = write_all(to, bytes, length) != 0 || fchmod(to, permissions(old)) != 0 ||
-                fsync(to) != 0;
-    int why = errno;
+    int wrong, why;
 
-    (void)kept;
+    /* Another owner is kept where that is allowed. */
+    if (old != NULL && fchown(to, old->stx_uid, old->stx_gid) != 0)
+        errno = 0;
+    wrong = write_all(to, bytes, length) != 0 || fchmod(to, permissions(old)) != 0 ||
+            settle(to) != 0;
+    why = errno;
     if (close(to) != 0 && !wrong)
         return -1;
     errno = why;

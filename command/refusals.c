@@ -2,6 +2,10 @@
 
 #include "mersclund.h"
 
+#include <string.h>
+
+enum { LINE = 80 };
+
 /* A number: its sentence, what else belongs to the sentence, and what to do about it. */
 struct refusal {
     unsigned number;
@@ -30,14 +34,14 @@ static const struct refusal refusals[] = {
      "A name has 1 to 6 characters: a letter or $ # @ in column 1, then these or digits. "
      "Leave column 1 blank for no name."},
     {MERSCLUND_REFUSED_OPERATION, "operation absent or unknown", "",
-     "Write an operation of the manual's table behind the name or behind a blank column 1; "
+     "Write an operation of docs/MANUAL.md behind the name or a blank column 1; "
      "a comment has * in column 1."},
     {MERSCLUND_REFUSED_START, "START missing first, or again", "",
      "Make START the first card that is no comment, and the only START."},
     {MERSCLUND_REFUSED_NAMING, "name needed or forbidden", "",
      "Give EQU a name in column 1; leave column 1 blank on ORG, USING, DROP and END."},
     {MERSCLUND_REFUSED_FORM, "operand not of its form", "",
-     "Write the operand as the manual's table has it for this operation; it ends at the first "
+     "Write the operand as docs/MANUAL.md has it for this operation; it ends at the first "
      "blank outside apostrophes."},
     {MERSCLUND_REFUSED_AGAIN, "name already defined", "",
      "Give this card or the earlier one another name."},
@@ -47,7 +51,8 @@ static const struct refusal refusals[] = {
      "Mend the spelling, or define the name on a card; for EQU and ORG, on an earlier card."},
     {MERSCLUND_REFUSED_KIND, "wrong kind", "",
      "A label is relocatable, a number or a label minus a label absolute. Lengths, Qs and "
-     "registers are absolute; ORG, END, jumps want relocatable; a label is never multiplied."},
+     "registers are absolute; the operands of ORG, END and jumps are relocatable; a label is "
+     "never multiplied."},
     {MERSCLUND_REFUSED_VALUE, "value out of range", ", a name's value over 65535 included",
      "Keep an expression in -65536 to 65535, a label and a relocatable one in 0 to 65535, and "
      "each step in -16777216 to 16777215."},
@@ -70,7 +75,7 @@ static const struct refusal refusals[] = {
     {MERSCLUND_REFUSED_OVER, "field or entry plus displacement over 65535", "",
      "Load at a lower displacement."},
     {MERSCLUND_REFUSED_INPUT, "input over 65,536 bytes", " (printing only, before 50)",
-     "A longer book can be loaded, but not printed: print those of the parts of the deck."},
+     "A longer book can be loaded but not printed: part its deck to print it."},
 };
 
 enum { COUNT = sizeof refusals / sizeof refusals[0] };
@@ -89,13 +94,28 @@ static const struct refusal *refusal_of(unsigned number, unsigned card)
     return &unknown;
 }
 
+/* Writes the text in lines of at most 80 characters, each with blanks before it. */
+static void write_wrapped(FILE *to, const char *text, size_t blanks)
+{
+    while (*text != '\0') {
+        size_t end = strlen(text);
+        if (end > LINE - blanks)
+            for (end = LINE - blanks; end > 1 && text[end] != ' '; end--)
+                ;
+        fprintf(to, "%*s%.*s\n", (int)blanks, "", (int)end, text);
+        text += end;
+        text += *text == ' ';
+    }
+}
+
 void write_numbers(FILE *to)
 {
     size_t i;
 
-    for (i = 0; i < COUNT; i++)
-        fprintf(to, "%2u  %s%s\n    %s\n", refusals[i].number, refusals[i].sentence,
-                refusals[i].more, refusals[i].advice);
+    for (i = 0; i < COUNT; i++) {
+        fprintf(to, "%2u  %s%s\n", refusals[i].number, refusals[i].sentence, refusals[i].more);
+        write_wrapped(to, refusals[i].advice, 4);
+    }
 }
 
 void tell_refusal(const char *file, unsigned number, unsigned card)
@@ -121,6 +141,6 @@ void tell_card(const uint8_t *bytes, size_t length)
 
 enum status tell_advice(unsigned number, unsigned card)
 {
-    fprintf(stderr, "%s\n", refusal_of(number, card)->advice);
+    write_wrapped(stderr, refusal_of(number, card)->advice, 0);
     return REFUSED;
 }

@@ -90,7 +90,7 @@ try 1 assemble "$root/examples/mistyped" -o mistyped.book
 quiet
 absent mistyped.book
 printf '%s\n' "$root/examples/mistyped:5: refused 18: name not defined" '       AZ    TOTLE,ZERO' \
-    'Mend the spelling, or define the name on a card; for EQU and ORG, on an earlier card.' >wanted
+    'Mend the spelling, or define the name on a card; for EQU and ORG, on an earlier' 'card.' >wanted
 same err wanted
 punch 80 "$root/examples/mistyped" >mistyped
 try 1 assemble mistyped

@@ -45,6 +45,10 @@ told_first "/dev/full: can't be written: No space left on device"
 try 0 assemble ledger -o /dev/null
 [ -c /dev/null ] || wrong '/dev/null is no device any more'
 
+ran=$((ran + 1)) name='-o /dev/stdout in a pipe'
+"$command" assemble /dev/stdin -o /dev/stdout <ledger 2>err | cat >out
+same out ledger.book
+
 # A full disk under a file: the old file stays. (A limit on files stands in for the disk.)
 ran=$((ran + 1)) name='a limit on files'
 echo old >kept
