@@ -40,11 +40,28 @@ try 2 assemble ledger -o folder
 told_first "folder: can't be written: it is a folder"
 try 2 assemble ledger -o ledger/x
 told "can't be written"
-try 2 assemble ledger -o /dev/full
-told_first "/dev/full: can't be written: No space left on device"
-try 0 assemble ledger -o /dev/null
-[ -c /dev/null ] || wrong '/dev/null is no device any more'
 
+# Outputs that can't be replaced are written straight. A command that is wrong here would put a
+# file in the device's place, so no device of the machine's own is ever named behind -o: a pipe
+# and devices in this folder are, where such can be made and used.
+mkfifo own-pipe
+exec 5<>own-pipe
+try 0 assemble ledger -o own-pipe
+[ -p own-pipe ] || wrong 'the pipe is no pipe any more'
+timeout 5 head -c 208 <&5 >piped
+exec 5>&-
+same piped ledger.book
+if mknod own-full c 1 7 2>mknod.err && mknod own-null c 1 3 2>mknod.err && (: >own-null) 2>mknod.err; then
+    try 2 assemble ledger -o own-full
+    told_first "own-full: can't be written: No space left on device"
+    [ -c own-full ] || wrong 'the full device is no device any more'
+    try 0 assemble ledger -o own-null
+    [ -c own-null ] || wrong 'the device is no device any more'
+else
+    echo "command, $which: no device can be made here, so that writing to one is not tried"
+fi
+
+# This one is standard output by another name, a pipe.
 ran=$((ran + 1)) name='-o /dev/stdout in a pipe'
 "$command" assemble /dev/stdin -o /dev/stdout <ledger 2>err | cat >out
 same out ledger.book
