@@ -10,6 +10,17 @@ same kept ledger.book
 (umask 027 && "$command" assemble ledger -o fresh >out 2>err) || wrong 'could not write a new file'
 [ "$(stat -c %a fresh)" = 640 ] || wrong "permissions are $(stat -c %a fresh), not 640"
 
+if [ "$(id -u)" -ne 0 ]; then # nothing is protected from root
+    chmod 444 kept
+    try 2 assemble ledger -o kept
+    told_first "kept: can't be written: Permission denied"
+    chmod 644 kept
+    cp ledger unreadable
+    chmod 0 unreadable
+    try 2 assemble unreadable
+    told_first "unreadable: can't be read: Permission denied"
+fi
+
 echo old >real
 ln -s real link
 try 0 assemble ledger -o link
@@ -120,7 +131,7 @@ closed load ledger.book --at 0 -o -
 # Standard streams that are closed: using one fails, and no file takes its place.
 # (An emulator opens files of its own there.)
 if [ "$(head -c 4 "$command" | tail -c 3)" = ELF ]; then
-    ran=$((ran + 3)) name='a closed standard input'
+    ran=$((ran + 4)) name='a closed standard input'
     "$command" assemble - -o kept <&- >out 2>err
     ended 2 $?
     told "standard input: can't be read"
@@ -129,6 +140,13 @@ if [ "$(head -c 4 "$command" | tail -c 3)" = ELF ]; then
     ended 2 $?
     told 'standard output'
     same closed.book ledger.book
+    name='a closed standard output beside a pipe'
+    exec 5<>own-pipe
+    "$command" assemble ledger -o own-pipe >&- 2>err
+    ended 2 $?
+    timeout 1 cat <&5 >piped
+    exec 5>&-
+    same piped ledger.book
     name='a closed standard error'
     "$command" assemble "$root/examples/mistyped" 2>&- >out
     ended 1 $?

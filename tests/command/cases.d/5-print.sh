@@ -21,3 +21,19 @@ try 1 print /dev/zero
 told_first '/dev/zero:0: refused 57: input over 65,536 bytes'
 try 2 print nosuch
 told_first "nosuch: can't be read: No such file or directory"
+
+# A book of just 65,536 bytes is printed, one of a byte more is not.
+for last in 34 35; do
+    {
+        echo ' START 0'
+        for ((i = 0; i < 249; i++)); do echo " DC CL256'A'"; done
+        printf ' DC CL%s\047A\047\n END\n' $last
+    } >limit
+    try 0 assemble limit -o "limit$last.book"
+done
+try 0 print limit34.book
+said '0000FFFC 01 00 0000'
+[ "$(wc -l <out)" -eq 251 ] || wrong 'not all records are printed'
+try 1 print limit35.book
+told_first 'limit35.book:0: refused 57: input over 65,536 bytes'
+quiet
