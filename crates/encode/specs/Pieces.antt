@@ -29,7 +29,7 @@ unfoldable pub textOf : List Piece → List ℕ
 textOf [] = []
 textOf (p ∷ ps) = pieceText p ++ textOf ps
 
--- THE FIELDS: "each card's two-byte fields with a relocatable value, each once, and no other place"
+-- THE FIELDS: the two-byte fields with a relocatable value, each once, and no other place (demand 3)
 
 abbrev pub pieceSize : Piece → ℕ
 pieceSize (plain b) = 1

@@ -32,6 +32,7 @@ use Rattle.statements.specs.Places.{awayFrom, displacedBy, indexedBy, operandOf
 use Rattle.statements.specs.Statements.{numberOf, statementFrom}
 use Rattle.lines.specs.Lines.{lineOf, readingOf}
 use Rattle.encode.specs.Pieces.{textOf, fieldsFrom as fieldsFrom-pieces, addressPieces, copied, piecesOf}
+use Rattle.encode.specs.Steps.{twoApart}
 use Rattle.passes.specs.Assembly.{assembled}
 use Rattle.passes.specs.Cards.{counterAfter, nameValue}
 use Rattle.passes.specs.One.{earlyNo, overNo, valueNo, lineNo, oneNo, entered, stepOne, passOne}
@@ -39,5 +40,5 @@ use Rattle.passes.specs.Two.{twoNo, stepTwo, checkTwo, linePieces, cardPieces, 
 use Rattle.examples.specs.Table.{expected, recordAnswer, comesTo, rows}
 
 pub all-rows : map comesTo rows ≡ map expected rows
-unfolding recordAnswer comesTo rows orElse lower movedBy word long classOf codedFrom listed codeIn codeOf digitOf bytes isOneOf isFromTo nameEnd nameByte nameNumber nameAt digitsFrom decimalAt closedAt numeralAt hexAt binaryAt quotedAt charactersAt symbolAt letteredAt termAt find defined nameRefusal factorsFrom factorsAt productAt productsFrom productsAt times timesOut anyRelocatable anyUndefined added subtracted afterPlus afterMinus anyOut anyMixed anyUnknown valueOf evaluated allAccepted byteNo blanksEnd wordEnd operandEnd fieldsFrom cardOf twoAddress oneAddress branch ownOperations twoAddresses oneAddresses branches jumps extendedMoves extendedBranches extendedJumps model10 lettersOf number5 operationIn wordLetter wordNumber operationAt fieldsFit fair recordOk recordsFrom headerOk entryAt bookOf restBytes recordBytes recordsBytes bookBytes movedIn overIn stored storedAll bytesStored firstCard judged loading typeOf copiesBefore lengthAt headAt charactersFrom charactersAt-data runAt addressAt valueAt constantBehind constantForm reserveForm digitsEndFrom digitsEnd numberFrom told lengthFits dataSize constantNo reserveNo codesFrom pairsFrom hexBytes charactersText hexadecimalText decimalText repeated constantText closed registerAt behindLength lengthAt-form orRegister behindAddress addressAt-form ended lastAt startTerm startShape endShape pairShape twoOf twoShape oneShape onlyShape constantShape reserveShape lengthsCode lengthCode itemCode registerCode writtenCode codeOf-statement expressionsNo operandsOf awayFrom displacedBy indexedBy operandOf jumpCode placesNo basesBy numberOf statementFrom lineOf readingOf textOf fieldsFrom-pieces addressPieces copied piecesOf assembled counterAfter nameValue earlyNo overNo valueNo lineNo oneNo entered stepOne passOne twoNo stepTwo checkTwo linePieces cardPieces recordsFrom-cards entryFrom bookFrom
+unfolding recordAnswer comesTo rows orElse lower movedBy word long classOf codedFrom listed codeIn codeOf digitOf bytes isOneOf isFromTo nameEnd nameByte nameNumber nameAt digitsFrom decimalAt closedAt numeralAt hexAt binaryAt quotedAt charactersAt symbolAt letteredAt termAt find defined nameRefusal factorsFrom factorsAt productAt productsFrom productsAt times timesOut anyRelocatable anyUndefined added subtracted afterPlus afterMinus anyOut anyMixed anyUnknown valueOf evaluated allAccepted byteNo blanksEnd wordEnd operandEnd fieldsFrom cardOf twoAddress oneAddress branch ownOperations twoAddresses oneAddresses branches jumps extendedMoves extendedBranches extendedJumps model10 lettersOf number5 operationIn wordLetter wordNumber operationAt fieldsFit fair recordOk recordsFrom headerOk entryAt bookOf restBytes recordBytes recordsBytes bookBytes movedIn overIn stored storedAll bytesStored firstCard judged loading typeOf copiesBefore lengthAt headAt charactersFrom charactersAt-data runAt addressAt valueAt constantBehind constantForm reserveForm digitsEndFrom digitsEnd numberFrom told lengthFits dataSize constantNo reserveNo codesFrom pairsFrom hexBytes charactersText hexadecimalText decimalText repeated constantText closed registerAt behindLength lengthAt-form orRegister behindAddress addressAt-form ended lastAt startTerm startShape endShape pairShape twoOf twoShape oneShape onlyShape constantShape reserveShape lengthsCode lengthCode itemCode registerCode writtenCode codeOf-statement expressionsNo operandsOf awayFrom displacedBy indexedBy operandOf jumpCode placesNo basesBy numberOf statementFrom lineOf readingOf textOf fieldsFrom-pieces addressPieces copied piecesOf twoApart assembled counterAfter nameValue earlyNo overNo valueNo lineNo oneNo entered stepOne passOne twoNo stepTwo checkTwo linePieces cardPieces recordsFrom-cards entryFrom bookFrom
 all-rows = refl

@@ -11,7 +11,6 @@ use Rattle.values.specs.declared.Value.the-variants.{Absolute, Relocatable}
 use Rattle.letters.specs.Text.{bytes}
 use Rattle.terms.specs.Names.{nameNumber}
 use Rattle.names.specs.declared.Name.{Name}
-use Rattle.names.specs.declared.Entry.{Entry}
 use Rattle.names.specs.Names.{find}
 use Rattle.expressions.specs.declared.form.Form.{Form}
 use Rattle.expressions.specs.declared.form.Form.the-variants.{Ends, Fails}
@@ -23,12 +22,6 @@ use Rattle.expressions.specs.Value.{evaluated, refusalFor}
 use Rattle.book.specs.Book.{Record, Book}
 use Rattle.book.specs.Writing.{bookBytes}
 use Rattle.load.specs.Load.{loading}
-use Rattle.lines.specs.declared.Line.{Line}
-use Rattle.lines.specs.declared.Reading.{Reading}
-use Rattle.lines.specs.declared.Reading.the-variants.{Comment, BadName, Statement}
-use Rattle.lines.specs.Lines.{readingOf}
-use Rattle.encode.specs.Pieces.{textOf, fieldsOf}
-use Rattle.passes.specs.Two.{outset, twoNo, cardPieces}
 use Rattle.passes.specs.Assembly.{Result, assembled}
 use Rattle.passes.specs.Assembly.Result.{made, refused as notMade}
 
@@ -41,16 +34,14 @@ pub data Answer : Type 0 where
   text : List ℕ → List ℕ → Answer
   stored : List ℕ → Answer
 
--- an expression; an instruction alone, over names; card k of a deck; two bytes of storage from a place on, a deck's book loaded with a displacement
+-- an expression, over names; card k of a deck; two bytes of storage from a place on, a deck's book loaded with a displacement
 pub data Row : Type 0 where
   expression : String → List Name → Answer → Row
-  instruction : String → List Name → Answer → Row
   card : ℕ → List String → Answer → Row
   loaded : List String → ℕ → ℕ → Answer → Row
 
 abbrev pub expected : Row → Answer
 expected (expression written names answer) = answer
-expected (instruction written names answer) = answer
 expected (card k deck answer) = answer
 expected (loaded deck d from answer) = answer
 
@@ -81,11 +72,6 @@ expressionAnswer s names = wholeOf (length s) (formOf (expressionAt s 0)) (answe
 abbrev pub columns : String → List ℕ
 columns written = bytes written ++ replicate (71 - length (bytes written)) 0x20
 
--- the text and the offsets of the fields, or 18 to 23
-abbrev pub instructionAnswer : (ℕ → Entry) → List ℕ → Answer
-instructionAnswer look s =
-    pick (eqb (twoNo look outset s) 0) (text (textOf (cardPieces look outset s)) (fieldsOf (cardPieces look outset s))) (refused (twoNo look outset s))
-
 -- the record of card k
 unfoldable pub recordAnswer : ℕ → List Record → Answer
 recordAnswer k [] = text [] []
@@ -95,14 +81,13 @@ abbrev pub cardAnswer : ℕ → Result → Answer
 cardAnswer k (made names b) = recordAnswer k (b .records)
 cardAnswer k (notMade number at) = refusedAt number at
 
--- two bytes of a storage that was all 255, of 258 bytes
+-- two bytes of a storage of 258 bytes that was all 55
 abbrev pub loadAnswer : Result → ℕ → ℕ → Answer
-loadAnswer (made names b) d from = stored (part (loading (bookBytes b) (record { 0 = d }) (replicate 258 255) .storage) from 2)
+loadAnswer (made names b) d from = stored (part (loading (bookBytes b) (record { 0 = d }) (replicate 258 0x55) .storage) from 2)
 loadAnswer (notMade number at) d from = refusedAt number at
 
 unfoldable pub comesTo : Row → Answer
 comesTo (expression written names answer) = expressionAnswer (bytes written) names
-comesTo (instruction written names answer) = instructionAnswer (find names) (columns written)
 comesTo (card k deck answer) = cardAnswer k (assembled (map columns deck))
 comesTo (loaded deck d from answer) = loadAnswer (assembled (map columns deck)) d from
 
@@ -118,8 +103,9 @@ isRelocatable name n = record { number = numberOf name; value = Relocatable (rec
 
 unfoldable pub rows : List Row
 rows =
-    instruction " ZAZ FINAL(5),DONE(1,1)" (isRelocatable "FINAL" 0x131B ∷ isAbsolute "DONE" 0xBA ∷ []) (text (0x14 ∷ 0x40 ∷ 0x13 ∷ 0x1B ∷ 0xBA ∷ []) (2 ∷ []))
+    card 3 ("FINAL START X'131B'" ∷ "DONE EQU X'BA'" ∷ " ZAZ FINAL(5),DONE(1,1)" ∷ " END" ∷ []) (text (0x14 ∷ 0x40 ∷ 0x13 ∷ 0x1B ∷ 0xBA ∷ []) (2 ∷ []))
     ∷ expression "C'A'''" [] (absolute 0xC17D)
+    ∷ card 2 (" START 0" ∷ " DC C'A'''" ∷ " END" ∷ []) (text (0xC1 ∷ 0x7D ∷ []) [])
     ∷ expression "A-Y+X" (isAbsolute "A" 50 ∷ isRelocatable "Y" 25 ∷ isRelocatable "X" 10 ∷ []) (absolute 35)
     ∷ expression "A+F*G-D+B" (isRelocatable "A" 3 ∷ isAbsolute "F" 1 ∷ isAbsolute "G" 4 ∷ isRelocatable "D" 5 ∷ isRelocatable "B" 2 ∷ []) (relocatable 4)
     ∷ expression "0-1" [] (absolute 0xFFFF)
@@ -128,10 +114,10 @@ rows =
     ∷ expression "65535+1" [] (refused 20)
     ∷ expression "65535*256-65535*255" [] (absolute 65535)
     ∷ expression "65535*257-65535*256" [] (refused 20)
-    ∷ instruction " MVC 0(256),0" [] (text (0x0C ∷ 0xFF ∷ 0 ∷ 0 ∷ 0 ∷ 0 ∷ []) [])
-    ∷ instruction " MVC 0(257),0" [] (refused 21)
-    ∷ instruction " ZAZ 0(31),0(16)" [] (text (0x04 ∷ 0xFF ∷ 0 ∷ 0 ∷ 0 ∷ 0 ∷ []) [])
-    ∷ instruction " ZAZ 0(15),0(16)" [] (refused 21)
+    ∷ card 2 (" START 0" ∷ " MVC 0(256),0" ∷ " END" ∷ []) (text (0x0C ∷ 0xFF ∷ 0 ∷ 0 ∷ 0 ∷ 0 ∷ []) [])
+    ∷ card 2 (" START 0" ∷ " MVC 0(257),0" ∷ " END" ∷ []) (refusedAt 21 2)
+    ∷ card 2 (" START 0" ∷ " ZAZ 0(31),0(16)" ∷ " END" ∷ []) (text (0x04 ∷ 0xFF ∷ 0 ∷ 0 ∷ 0 ∷ 0 ∷ []) [])
+    ∷ card 2 (" START 0" ∷ " ZAZ 0(15),0(16)" ∷ " END" ∷ []) (refusedAt 21 2)
     ∷ card 3 ("S START 1" ∷ " USING S,1" ∷ " MVI S+255(1),0" ∷ " END" ∷ []) (text (0x7C ∷ 0 ∷ 0xFF ∷ []) [])
     ∷ card 3 ("S START 1" ∷ " USING S,1" ∷ " MVI S+256(1),0" ∷ " END" ∷ []) (refusedAt 23 3)
     ∷ card 3 ("S START 1" ∷ " USING S,1" ∷ " MVI S-1(1),0" ∷ " END" ∷ []) (refusedAt 23 3)

@@ -1,4 +1,4 @@
--- What a card does to the counter, and what its name stands for; both passes use it.
+-- What a card does to the counter, in both passes; and what its name stands for.
 use Prim.Native.Nat.{ℕ, _+_, _-_}
 use mathlib.Core.List.{List}
 use Rattle.values.specs.declared.Value.{Value}

@@ -28,7 +28,7 @@ use Rattle.passes.specs.declared.Phase.{Phase}
 use Rattle.passes.specs.declared.Phase.the-variants.{Before, Within, Ended}
 use Rattle.passes.specs.Cards.{roleOf, operandsAt, counterAfter, nameValue, nameLength}
 
--- between two cards: the counter, the names defined, and where START and END are
+-- between two cards: the counter, the names defined, and whether START and END have been
 pub record State : Type 0 where
   pub counter : ℕ
   pub names : List Name

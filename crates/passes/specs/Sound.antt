@@ -11,7 +11,7 @@ use Rattle.lines.specs.declared.Reading.the-variants.{Comment, BadName, Stateme
 use Rattle.lines.specs.Lines.{readingOf}
 use Rattle.passes.specs.One.{dataNo}
 
--- the sizes of DC and DS are good, and the card's bytes have room in storage
+-- the sizes of DC and DS are good, and the card has at most 65536 bytes
 abbrev pub soundLine : Line → Bool
 soundLine l = both (eqb (dataNo (l .shape)) 0) (leb (sizeOf (l .operation) (l .shape)) 65536)
 

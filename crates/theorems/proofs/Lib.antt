@@ -26,3 +26,4 @@ mod RaisedTwo
 mod Started
 pub mod Moved
 pub mod Demand3
+pub mod Sample

@@ -3,7 +3,6 @@ use Prim.{tt}
 use Prim.Native.Nat.{ℕ, zero, suc, _-_, _/_, _%_, _<_}
 use mathlib.Core.List.{List, [], _∷_, _++_, map}
 use mathlib.Core.Bool.{Bool, true, false}
-use mathlib.Core.Path.{_≡_, refl}
 use lib.Dec.{leb, eqb}
 use Rattle.values.specs.Tests.{pick, both}
 use Rattle.values.specs.declared.Value.{Value}
@@ -101,18 +100,15 @@ jump-low Use.Registers q here v = tt
 jump-low Use.Nothing q here v = tt
 
 module _ (look : ℕ → Entry) (here : ℕ) (o : List ℕ) (op : Operation) (bases : Bases) where
-  abbrev ofShape : Shape → List Piece
-  ofShape x = piecesOf (statementFrom op (operandsOf look here o x) here bases)
-
   abbrev expression : ℕ → Evaluated
   expression p = evaluated look here (expressionAt o p)
 
   at-low : (a : Address) → Low (operandPieces (operandIn (operandOf bases (placeOf look here o a))))
   at-low a = operand-low bases (placeOf look here o a) (value-fits look here (expressionAt o (a .at)))
 
-  none-low : (x : Shape) → operandsOf look here o x ≡ Operands.None → Low (ofShape x)
-  unfolding statementFrom piecesOf
-  none-low x e = rw e tt
+  none-low : Low (piecesOf Statement.None)
+  unfolding piecesOf
+  none-low = tt
 
   one-low : (q : ℕ) (a : Operand) → Low (operandPieces a) → Low (piecesOf (Statement.One op q a))
   unfolding piecesOf
@@ -126,11 +122,11 @@ module _ (look : ℕ → Entry) (here : ℕ) (o : List ℕ) (op : Operation) (ba
   unfolding piecesOf
   addresses-low n m p = copied-low n (addressPieces m (valueIn (expression p))) (address-low m (valueIn (expression p)) (value-fits look here (expressionAt o p)))
 
-  statement-low : (x : Shape) → Low (ofShape x)
+  statement-low : (x : Shape) → Low (piecesOf (statementFrom op (operandsOf look here o x) here bases))
   unfolding operandsOf statementFrom
-  statement-low (Shape.Fails q) = none-low (Shape.Fails q) refl
-  statement-low Shape.Nothing = none-low Shape.Nothing refl
-  statement-low (Shape.StartAt v) = none-low (Shape.StartAt v) refl
+  statement-low (Shape.Fails q) = none-low
+  statement-low Shape.Nothing = none-low
+  statement-low (Shape.StartAt v) = none-low
   statement-low Shape.Expression = jump-low (useOf op) _ here (valueIn (expression 0))
   statement-low (Shape.Pair p) = jump-low (useOf op) _ here (valueIn (expression 0))
   statement-low Shape.Target = jump-low (useOf op) _ here (valueIn (expression 0))
@@ -140,11 +136,11 @@ module _ (look : ℕ → Entry) (here : ℕ) (o : List ℕ) (op : Operation) (ba
   statement-low (Shape.Constant c) = go (c .kind)
     where
       go : (k : DataType) → Low (piecesOf (statementFrom op (constantBy k (Operands.Addresses (c .copies) (c .length) (expression (c .value)))) here bases))
-      go DataType.Characters = none-low (Shape.Fails 0) refl
-      go DataType.Hexadecimal = none-low (Shape.Fails 0) refl
-      go DataType.Decimal = none-low (Shape.Fails 0) refl
+      go DataType.Characters = none-low
+      go DataType.Hexadecimal = none-low
+      go DataType.Decimal = none-low
       go DataType.Address = addresses-low (c .copies) (c .length) (c .value)
-  statement-low (Shape.Reserve c) = none-low (Shape.Reserve c) refl
+  statement-low (Shape.Reserve c) = none-low
 
   shape-low : (x : Shape) (ps : List Piece) → Low ps → Low (shapePieces x o ps)
   shape-low (Shape.Fails q) ps h = h

@@ -24,6 +24,7 @@ use Rattle.passes.specs.Two.{outset, checkTwo, recordsFrom, entryFrom, bookFrom
 use Rattle.passes.specs.Assembly.{assembled}
 use Rattle.passes.specs.Assembly.Result.{made}
 use Rattle.load.specs.Load.{judged, loading}
+use Rattle.passes.proofs.Counter.{start-fits}
 use Rattle.theorems.specs.Fields.{Apart}
 use Rattle.theorems.specs.Raised.{raisedState}
 use Rattle.theorems.specs.Moved.{raisedEntry, movedRecord, movedBook, Starting, SameButStart}
@@ -33,7 +34,7 @@ use Rattle.theorems.proofs.Fields.{other-bytes}
 use Rattle.theorems.proofs.RaisedOne.{AllUsual, pass-usual, pass-raised}
 use Rattle.theorems.proofs.RaisedTwo.{records-raised, entries-raised}
 use Rattle.theorems.proofs.RaisedLoad.{Raised, records-moved, judged-same}
-use Rattle.theorems.proofs.Started.{AllComments, behind, begunOne, begunTwo, start-fits, only-comments, one-behind, two-behind, records-behind, entry-behind}
+use Rattle.theorems.proofs.Started.{AllComments, behind, begunOne, begunTwo, only-comments, one-behind, two-behind, records-behind, entry-behind}
 
 begun-raised : (d name at : ℕ) → begunOne name (at + d) ≡ raisedState d (begunOne name at)
 begun-raised d name at = ap (λ ns. record { counter = at + d; names = ns; phase = Within }) (go (eqb name 0))
@@ -83,7 +84,10 @@ module _ (d : ℕ) (before after : List (List ℕ)) (s t : List ℕ) (name at : 
 
 -- "the displacement (unsigned, 16 bits)": d is one, since both values are
 pub displacement-fits : (d : ℕ) (ss ts : List (List ℕ)) → SameButStart d ss ts → d ≤ 65535
-displacement-fits d ss ts same = let h = start-fits (same .second) (same .name) (same .start + d) (same .startsHigher) in omega arith
+displacement-fits d ss ts same =
+    let value = same .startsHigher .value in
+    let low = start-fits (same .second) (same .startsHigher .line) (same .startsHigher .reads) in
+    omega arith
 
 -- THE THEOREM, of two such decks that are both accepted
 module _ (d : ℕ) (ss ts : List (List ℕ)) (same : SameButStart d ss ts) (n m : ℕ) (b c : Book) (accepted : assembled ss ≡ made n b) (accepted′ : assembled ts ≡ made m c) where

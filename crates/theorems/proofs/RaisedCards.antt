@@ -2,7 +2,7 @@
 use Prim.Native.Nat.{ℕ, _+_}
 use mathlib.Core.List.{List, [], _∷_, map}
 use mathlib.Core.Bool.{Bool, true, false, false≢true}
-use mathlib.Core.Path.{_≡_, refl, sym, ap, subst}
+use mathlib.Core.Path.{_≡_, refl, sym, ap, _∙_, subst}
 use native.Mathlib.Omega.{arith}
 use lib.Dec.{eqb}
 use Rattle.values.specs.Tests.{pick}
@@ -21,7 +21,7 @@ use Rattle.data.specs.declared.DataType.{DataType}
 use Rattle.data.specs.Text.{constantText}
 use Rattle.data.proofs.Fine.{constant-fine, reserve-fine}
 use Rattle.forms.specs.declared.Shape.{Shape}
-use Rattle.forms.specs.Shape.{lastAt, shapeOf}
+use Rattle.forms.specs.Shape.{shapeOf}
 use Rattle.statements.specs.declared.operands.Operands.{Operands}
 use Rattle.statements.specs.declared.places.Base.{Base}
 use Rattle.statements.specs.declared.places.Bases.{Bases}
@@ -43,7 +43,7 @@ use Rattle.passes.specs.Two.{constantPieces, shapePieces, linePieces}
 use Rattle.theorems.specs.Raised.{raisedOperands, raisedBase, raisedBases, raisedPiece}
 use Rattle.theorems.proofs.RaisedOperands.{operands-raised}
 use Rattle.theorems.proofs.RaisedStatements.{value-in-raised, absolute-in, relocatable-in, lone-raised, pieces-raised}
-use Rattle.theorems.proofs.Lines.{last-has, pair-has}
+use Rattle.theorems.proofs.Lines.{last-has, pair-has, org-shape}
 
 -- refusals 18 to 20 are those of EQU and ORG again
 pub early-none : (r : Role) (op : Operation) (x : Operands) → expressionsNo op x ≡ 0 → earlyBy r op x ≡ 0
@@ -88,14 +88,9 @@ module _ (d : ℕ) (s : List ℕ) (l : Line) (reads : readingOf s ≡ Statement 
       → amountOf (loneValue (raisedOperands d (operandsAt look here s l))) ≡ amountOf (loneValue (operandsAt look here s l)) + d
   unfolding operandsOf expressionsNo
   org-raised e look here h =
-      subst P (sym shape) (last-has P (λ q f g. absurd (omega arith)) (operandIn s l) 0 Shape.Expression (λ f g. relocatable-in d (evaluated look here (expressionAt (operandIn s l) 0)) g)) formed (rw e at h)
-    where
-      P : Shape → Type 0
-      P x = shapeNo x ≡ 0 → expressionsNo Org (operandsOf look here (operandIn s l) x) ≡ 0
-          → amountOf (loneValue (raisedOperands d (operandsOf look here (operandIn s l) x))) ≡ amountOf (loneValue (operandsOf look here (operandIn s l) x)) + d
-
-      shape : l .shape ≡ lastAt (operandIn s l) 0 Shape.Expression
-      shape = rw e at (line-shape s l reads)
+      let x : l .shape ≡ shapeOf Org (operandIn s l) = line-shape s l reads ∙ ap (λ op. shapeOf op (operandIn s l)) e in
+      let y : l .shape ≡ Shape.Expression = x ∙ org-shape (operandIn s l) (sym (ap shapeNo x) ∙ formed) in
+      rw y (relocatable-in d (evaluated look here (expressionAt (operandIn s l) 0)) (rw (e, y) at h))
 
   module _ (ns : List Name) (here : ℕ) where
     abbrev up : List Name

@@ -9,9 +9,6 @@ use Rattle.names.specs.declared.Name.{Name}
 use Rattle.names.specs.declared.Entry.{Entry as NameEntry}
 use Rattle.names.specs.Names.{find}
 use Rattle.names.specs.Raised.{raisedValue, raisedName}
-use Rattle.operations.specs.declared.Operation.{Operation}
-use Rattle.statements.specs.declared.operands.Operands.{Operands}
-use Rattle.statements.specs.declared.places.Bases.{Bases}
 use Rattle.statements.specs.Kinds.{expressionsNo}
 use Rattle.statements.specs.Statements.{numberOf, loneValue}
 use Rattle.encode.specs.Pieces.{Piece}
@@ -38,9 +35,11 @@ use Rattle.theorems.proofs.RaisedOne.{Usual, AllUsual}
 use Rattle.theorems.proofs.RaisedLoad.{Raised}
 use Rattle.theorems.proofs.RaisedLoad.Raised.{none, more}
 
-expressions-fine : (op : Operation) (x : Operands) (here : ℕ) (bases : Bases) → numberOf op x here bases ≡ 0 → expressionsNo op x ≡ 0
+-- no expression of a card that pass two lets through is refused
+expressions-fine : (look : ℕ → NameEntry) (c : Course) (s : List ℕ) (l : Line) → readingTwoNo look c s (Reading.Statement l) ≡ 0
+    → expressionsNo (l .operation) (operandsAt look (c .counter) s l) ≡ 0
 unfolding numberOf
-expressions-fine op x here bases h = or-zero _ _ h .0
+expressions-fine look c s l h = or-zero _ _ h .0
 
 early-two : (look : ℕ → NameEntry) (here : ℕ) (s : List ℕ) (l : Line) → expressionsNo (l .operation) (operandsAt look here s l) ≡ 0 → earlyNo look here s l ≡ 0
 unfolding earlyNo
@@ -62,8 +61,8 @@ module _ (d : ℕ) (ns : List Name) where
         go Reading.Comment e u h k = refl
         go Reading.BadName e u h k = refl
         go (Reading.Statement l) e (n, f) h k =
-            let p = expressions-fine (l .operation) (operandsAt (find ns) (c .counter) s l) (c .counter) (c .bases) h in
-            let q = expressions-fine (l .operation) (operandsAt (find up) (c .counter + d) s l) (c .counter + d) (raisedCourse d c .bases) k in
+            let p = expressions-fine (find ns) c s l h in
+            let q = expressions-fine (find up) (raisedCourse d c) s l k in
             let i = early-two (find ns) (c .counter) s l p in
             let j = early-two (find up) (c .counter + d) s l q in
             rw (counter-raised d s l e n f ns (c .counter) i j, bases-raised d s l e n f ns (c .counter) p q (c .bases))
@@ -77,8 +76,8 @@ module _ (d : ℕ) (ns : List Name) where
         go Reading.Comment e u h k = refl
         go Reading.BadName e u h k = refl
         go (Reading.Statement l) e (n, f) h k =
-            let p = expressions-fine (l .operation) (operandsAt (find ns) (c .counter) s l) (c .counter) (c .bases) h in
-            let q = expressions-fine (l .operation) (operandsAt (find up) (c .counter + d) s l) (c .counter + d) (raisedCourse d c .bases) k in
+            let p = expressions-fine (find ns) c s l h in
+            let q = expressions-fine (find up) (raisedCourse d c) s l k in
             line-pieces d s l e n f ns (c .counter) p q (c .bases)
 
     entry-raised : (rest : Entry) → readingEntry (find up) (raisedCourse d c) s (readingOf s) (raisedEntry d rest) ≡ raisedEntry d (readingEntry (find ns) c s (readingOf s) rest)
@@ -102,8 +101,8 @@ module _ (d : ℕ) (ns : List Name) where
         go Reading.BadName h k = refl
         go (Reading.Statement l) h k =
             let x = operandsAt (find ns) (c .counter) s l in
-            let p = expressions-fine (l .operation) x (c .counter) (c .bases) h in
-            let q = expressions-fine (l .operation) (operandsAt (find up) (c .counter + d) s l) (c .counter + d) (raisedCourse d c .bases) k in
+            let p = expressions-fine (find ns) c s l h in
+            let q = expressions-fine (find up) (raisedCourse d c) s l k in
             rw (operands-raised d ns (c .counter) (operandIn s l) (l .operation) (l .shape) p q, lone-raised d x) (role (roleOf (l .operation)) (loneValue x))
 
   -- ALL CARDS

@@ -1,6 +1,6 @@
 -- Up to START: only comment cards stand before it, and it sets the counter and its name and makes nothing.
 use Prim.{Unit, tt}
-use Prim.Native.Nat.{ℕ, _+_, _≤_}
+use Prim.Native.Nat.{ℕ, _+_}
 use mathlib.Core.List.{List, [], _∷_, _++_}
 use mathlib.Core.Path.{_≡_, refl, ap, _∙_}
 use native.Mathlib.Omega.{arith}
@@ -13,7 +13,6 @@ use Rattle.names.specs.Names.{defined}
 use Rattle.operations.specs.declared.Operation.the-variants.{Start}
 use Rattle.forms.specs.declared.Shape.{Shape}
 use Rattle.forms.specs.Shape.{shapeOf}
-use Rattle.forms.proofs.Laws.{ShapeIn, shape-in}
 use Rattle.statements.specs.Operands.{operandsOf}
 use Rattle.statements.specs.Places.{basesBy}
 use Rattle.statements.specs.Statements.{statementFrom, statementOf}
@@ -113,11 +112,6 @@ module _ (s : List ℕ) (l : Line) (reads : readingOf s ≡ Statement l) (is : l
       let e : l .shape ≡ shapeOf Start (operandIn s l) = line-shape s l reads ∙ ap (λ op. shapeOf op (operandIn s l)) is in
       rw e (start-has P fails (operandIn s l) nothing starts)
 
-  line-fits : startValue (l .shape) ≤ 65535
-  line-fits =
-      let inside : ShapeIn (operandIn s l) (l .shape) = rw (line-shape s l reads) (shape-in (l .operation) (operandIn s l)) in
-      shape-is (λ x. ShapeIn (operandIn s l) x → startValue x ≤ 65535) (λ q h. omega arith) (λ h. omega arith) (λ v h. omega arith) inside
-
   line-one : stepOne fresh s ≡ begunOne (l .name) (startValue (l .shape))
   unfolding stepOne entered nameValue counterAfter defined
   line-one =
@@ -141,9 +135,6 @@ module _ (s : List ℕ) (l : Line) (reads : readingOf s ≡ Statement l) (is : l
       let (again, _) = rw reads at u in
       let z = rw is at again in
       omega arith
-
-pub start-fits : (s : List ℕ) (name at : ℕ) → Starting s name at → at ≤ 65535
-start-fits s name at card = rw (card .value) at (line-fits s (card .line) (card .reads) (card .operation))
 
 -- A DECK WITH START AT A PLACE, whose passes come down to the cards behind it
 
