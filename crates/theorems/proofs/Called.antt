@@ -16,6 +16,7 @@ use Rattle.cards.specs.Source.{isWidth, sourceNo, cardsFrom, cardsOf}
 use Rattle.cards.proofs.Whole.{source-whole}
 use Rattle.passes.specs.declared.Assembled.the-variants.{Made, Refused}
 use Rattle.passes.specs.Assembly.{Result, assembled, workSize, refusedAtOnce, written, outcomeOf, assembling}
+use Rattle.passes.proofs.Assembly.{too-long, fits, no-source, no-work, through-call}
 use Rattle.passes.specs.Assembly.Result.{made, refused}
 
 -- THE CARDS OF A SOURCE
@@ -62,7 +63,6 @@ module _ (width : ℕ) (source work out : List ℕ) where
         → assembling width source work out ≡ record { answer = Made (length (bookBytes book)) names; work = zeroed workSize work; out = sets out 0 (bookBytes book) } → Way
 
   pub way : Way
-  unfolding assembling
   way = first (eqb (sourceNo width (length source)) 0) refl
     where
       space : workSize ≤ length work → (names : ℕ) (book : Book) → sourceNo width (length source) ≡ 0 → assembled (cardsOf width source) ≡ made names book
@@ -70,21 +70,26 @@ module _ (width : ℕ) (source work out : List ℕ) where
       space w names book e f g = go (ltb (length out) (length (bookBytes book))) refl
         where
           go : (b : Bool) → ltb (length out) (length (bookBytes book)) ≡ b → Way
-          go true h = tooLong w names book f (ltb-true (length out) (length (bookBytes book)) h) (g ∙ rw h)
-          go false h = whole w names book (cards-few width source e) f (ltb-false (length out) (length (bookBytes book)) h) (g ∙ rw h)
+          go true h =
+              let l = ltb-true (length out) (length (bookBytes book)) h in
+              tooLong w names book f l (g ∙ too-long names (bookBytes book) (zeroed workSize work) out l)
+          go false h =
+              let l = ltb-false (length out) (length (bookBytes book)) h in
+              whole w names book (cards-few width source e) f l (g ∙ fits names (bookBytes book) (zeroed workSize work) out l)
 
-      third : workSize ≤ length work → sourceNo width (length source) ≡ 0 → assembling width source work out ≡ outcomeOf (assembled (cardsOf width source)) (zeroed workSize work) out
-          → (r : Result) → assembled (cardsOf width source) ≡ r → Way
-      third w e f (made names book) g = space w names book e g (f ∙ ap (λ x. outcomeOf x (zeroed workSize work) out) g)
-      third w e f (refused number card) g = byCards w (cards-few width source e) number card g (f ∙ ap (λ x. outcomeOf x (zeroed workSize work) out) g)
+      third : workSize ≤ length work → sourceNo width (length source) ≡ 0 → (r : Result) → assembled (cardsOf width source) ≡ r → Way
+      third w e (made names book) g =
+          space w names book e g (through-call width source work out e w ∙ ap (λ x. outcomeOf x (zeroed workSize work) out) g)
+      third w e (refused number card) g =
+          byCards w (cards-few width source e) number card g (through-call width source work out e w ∙ ap (λ x. outcomeOf x (zeroed workSize work) out) g)
 
-      second : eqb (sourceNo width (length source)) 0 ≡ true → (b : Bool) → ltb (length work) workSize ≡ b → Way
-      second e true f = atOnce 3 (omega arith) (omega arith) (rw (e, f))
-      second e false f = third (ltb-false (length work) workSize f) (eqb-true (sourceNo width (length source)) 0 e) (rw (e, f)) (assembled (cardsOf width source)) refl
+      second : sourceNo width (length source) ≡ 0 → (b : Bool) → ltb (length work) workSize ≡ b → Way
+      second e true f = atOnce 3 (omega arith) (omega arith) (no-work width source work out e (ltb-true (length work) workSize f))
+      second e false f = third (ltb-false (length work) workSize f) e (assembled (cardsOf width source)) refl
 
       first : (b : Bool) → eqb (sourceNo width (length source)) 0 ≡ b → Way
-      first true e = second e (ltb (length work) workSize) refl
+      first true e = second (eqb-true (sourceNo width (length source)) 0 e) (ltb (length work) workSize) refl
       first false e =
           let n = source-numbers width (length source) in
           let z = eqb-false (sourceNo width (length source)) 0 e in
-          atOnce (sourceNo width (length source)) (omega (arith, z)) (omega arith) (rw e)
+          atOnce (sourceNo width (length source)) (omega (arith, z)) (omega arith) (no-source width source work out z)

@@ -11,7 +11,9 @@ use Rattle.names.specs.Names.{find}
 use Rattle.names.specs.Table.{amountOf}
 use Rattle.expressions.specs.declared.Wanted.{Wanted}
 use Rattle.expressions.specs.declared.Wanted.the-variants.{Any, OnlyRelocatable}
-use Rattle.expressions.specs.Form.{expressionAt}
+use Rattle.values.specs.declared.Value.{Value}
+use Rattle.expressions.specs.declared.Evaluated.the-variants.{Good}
+use Rattle.expressions.specs.Form.{Placed, Addend, Read, expressionAt}
 use Rattle.expressions.specs.Value.{evaluated, refusalFor, valueIn}
 use Rattle.expressions.proofs.Laws.{accepted}
 use Rattle.operations.specs.declared.Operation.{Operation}
@@ -43,7 +45,7 @@ use Rattle.passes.specs.Two.{outset, readingTwoNo, twoNo, readingTwoStep, stepT
 use Rattle.passes.proofs.Turns.{pass-turn}
 use Rattle.passes.proofs.Counter.{counter-most}
 use Rattle.passes.proofs.Fine.{Fine, fine, one-zero}
-use Rattle.theorems.specs.Grow.{Keeps, behindOne, behindTwo, namesBy, counterOne, counterTwo, readingSize, cardSize, unlessSeen, readingUnseen, unseenNo, checkUnseen}
+use Rattle.theorems.specs.Grow.{Keeps, behindOne, behindTwo, namesBy, lookIn, counterOne, counterTwo, readingSize, cardSize, unlessSeen, readingUnseen, unseenNo, checkUnseen}
 use Rattle.theorems.proofs.Lines.{equ-shape, org-shape}
 use Rattle.theorems.proofs.Kept.{value-kept, names-grow}
 
@@ -190,6 +192,12 @@ module _ (a : State) where
       behind-same n ss (k + 1) (stepOne st s) (stepTwo (find (a .names)) c s) (t .1)
       (card-counter st (find (a .names)) (names-grow (s ∷ ss) k st a h) s (t .0) c e)
 
+  behind-keeps : (n : ℕ) (ss : List (List ℕ)) (k : ℕ) (st : State) → passOne k st ss ≡ through a → Keeps (find (behindOne n st ss .names)) (find (a .names))
+  unfolding behindOne
+  behind-keeps zero ss k st h = names-grow ss k st a h
+  behind-keeps (suc n) [] k st h = names-grow [] k st a h
+  behind-keeps (suc n) (s ∷ ss) k st h = behind-keeps n ss (k + 1) (stepOne st s) (pass-turn k st a s ss h .1)
+
   behind-room : (n : ℕ) (ss : List (List ℕ)) (k : ℕ) (st : State) (c : Course) → passOne k st ss ≡ through a → c .counter ≡ st .counter → st .counter ≤ 65536
       → n < length ss → behindTwo (find (a .names)) n c ss .counter + cardSize (getD ss n []) ≤ 65536
   unfolding behindTwo
@@ -213,12 +221,12 @@ module _ (a : State) where
 -- THE THEOREMS, of a source that pass one goes through
 
 module _ (ss : List (List ℕ)) (a : State) (h : passOne 1 fresh ss ≡ through a) where
-  -- "Pass two does the rest": its second look at EQU and ORG refuses nothing
-  pub never-again : checkTwo (find (a .names)) 1 outset ss ≡ checkUnseen (find (a .names)) 1 outset ss
-  never-again = check-unseen a ss 1 1 fresh outset h refl
-
   over-all : (n : ℕ) → counterTwo ss n ≡ behindTwo (find (a .names)) n outset ss .counter
   over-all n = ap (λ p. behindTwo (find (namesBy p)) n outset ss .counter) h
+
+  -- "name already defined" is 16: what was known of a name before a card is known of it at the end, value and length
+  pub names-only-grow : (n : ℕ) → Keeps (find (behindOne n fresh ss .names)) (lookIn ss)
+  names-only-grow n name v length e = ap (λ p. find (namesBy p) name) h ∙ behind-keeps a n ss 1 fresh h name v length e
 
   -- the counter of pass two before every card is the counter that pass one had there
   pub same-counters : (n : ℕ) → counterTwo ss n ≡ counterOne ss n
@@ -230,3 +238,14 @@ module _ (ss : List (List ℕ)) (a : State) (h : passOne 1 fresh ss ≡ through 
       let r = behind-room a n ss 1 fresh outset h refl (omega arith) i in
       let same = over-all n in
       omega arith
+
+  -- "EQU and ORG use only names defined on earlier cards": an expression that had a value in pass one has the same value in pass two
+  pub same-value-again : (n : ℕ) (e : Read (List (Addend Placed))) (v : Value) → evaluated (find (behindOne n fresh ss .names)) (counterOne ss n) e ≡ Good v
+      → evaluated (lookIn ss) (counterTwo ss n) e ≡ Good v
+  same-value-again n e v good =
+      ap (λ here. evaluated (lookIn ss) here e) (same-counters n)
+      ∙ value-kept (find (behindOne n fresh ss .names)) (lookIn ss) (names-only-grow n) (counterOne ss n) e v good
+
+  -- "Pass two does the rest": its second look at EQU and ORG refuses nothing
+  pub never-again : checkTwo (find (a .names)) 1 outset ss ≡ checkUnseen (find (a .names)) 1 outset ss
+  never-again = check-unseen a ss 1 1 fresh outset h refl

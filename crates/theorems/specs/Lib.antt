@@ -5,3 +5,4 @@ pub mod Sums
 pub mod Fields
 pub mod Raised
 pub mod Moved
+pub mod ToldOnce
