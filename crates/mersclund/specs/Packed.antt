@@ -2,6 +2,8 @@
 use Prim.Native.Nat.{ℕ, _+_, _*_, _^_}
 use Rattle.book.specs.declared.Entry.{Entry}
 use Rattle.book.specs.declared.Entry.the-variants.{Absent, At}
+use Rattle.passes.specs.declared.Assembled.{Assembled}
+use Rattle.passes.specs.declared.Assembled.the-variants.{Made, Refused}
 use Rattle.load.specs.declared.Loaded.{Loaded}
 use Rattle.load.specs.declared.Loaded.the-variants.{Stored, Broken, Outside, Over}
 
@@ -20,3 +22,8 @@ packedLoad (Stored bytes e) = bytes + packedEntry e
 packedLoad Broken = packedRefusal 50 0
 packedLoad (Outside card) = packedRefusal 51 card
 packedLoad (Over card) = packedRefusal 52 card
+
+-- accepted: the book's length in bits 31 to 0, the count of names, at most 512, in bits 47 to 32
+abbrev pub packedAssembled : Assembled → ℕ
+packedAssembled (Made length names) = length + names * 2 ^ 32
+packedAssembled (Refused number card) = packedRefusal number card

@@ -3,10 +3,13 @@ ghost use mathlib.Core.Path.{_≡_};
 ghost use Prim.Native.Nat.{_<_, _^_};
 ghost use Rattle.values.specs.declared.Displacement.{Displacement};
 ghost use Rattle.load.specs.Load.{loading};
-ghost use Rattle.mersclund.specs.Packed.{packedRefusal, packedEntry, packedLoad};
+ghost use Rattle.passes.specs.Assembly.{assembling};
+ghost use Rattle.mersclund.specs.Packed.{packedRefusal, packedEntry, packedLoad, packedAssembled};
+use assemble::assemble_cards;
 use book::Entry;
 use load::Loaded;
 use load::load_book;
+use passes::Assembled;
 use values::Displacement;
 
 fn pack_refusal(number: u8, card: u16) -> u64
@@ -42,4 +45,28 @@ pub extern "C" fn mersclund_load(book: &[u8], displacement: u16, storage: &mut [
     ensures { λ _. ⌜ now (storage .exit) ≡ loading (now (book .entry)) (record { 0 = displacement }) (now (storage .entry)) .storage ⌝ }
 {
     pack_load(load_book(book, Displacement::by(displacement), storage))
+}
+
+fn pack_assembled(answer: Assembled) -> u64
+    ensures { λ r. ⌜ r ≡ packedAssembled answer ⌝ }
+{
+    match answer {
+        Assembled::Made(length, names) => length as u64 + names as u64 * 4294967296,
+        Assembled::Refused(number, card) => pack_refusal(number, card),
+    }
+}
+
+// Assembles any source of cards of any width into any output, with any work area.
+#[no_mangle]
+pub extern "C" fn mersclund_assemble(
+    width: u32,
+    source: &[u8],
+    work: &mut [u8],
+    out: &mut [u8],
+) -> u64
+    ensures { λ r. ⌜ r ≡ packedAssembled (assembling width (now (source .entry)) (now (work .entry)) (now (out .entry)) .answer) ⌝ }
+    ensures { λ _. ⌜ now (work .exit) ≡ assembling width (now (source .entry)) (now (work .entry)) (now (out .entry)) .work ⌝ }
+    ensures { λ _. ⌜ now (out .exit) ≡ assembling width (now (source .entry)) (now (work .entry)) (now (out .entry)) .out ⌝ }
+{
+    pack_assembled(assemble_cards(width, source, work, out))
 }

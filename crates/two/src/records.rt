@@ -93,7 +93,14 @@ fn put_record(t: Text, o: &[u8], card: u16, address: u32, m: &mut [u8], to: usiz
     let count = text_count(t);
     let fields = to + 7;
     let text = fields + count;
-    put_head((5 + count + size) as u16, card, (address % 65536) as u16, count as u8, m, to);
+    put_head(
+        (5 + count + size) as u16,
+        card,
+        (address % 65536) as u16,
+        count as u8,
+        m,
+        to,
+    );
     put_text_fields(t, m, fields);
     put_text_bytes(t, o, m, text);
 }

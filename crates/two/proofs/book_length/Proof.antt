@@ -31,7 +31,7 @@ use Rattle.two.proofs.records.text_count.Reads as text-count-reads
 use Rattle.two.proofs.records.text_length.Reads as text-length-reads
 
 abbrev Inv-loop : tie.InvT-loop
-Inv-loop width source table count columns c₀ left₀ at₀ sum₀ c left at sum = 
+Inv-loop width source table count columns c₀ left₀ at₀ sum₀ c left at sum =
     (at + width * left ≡ length source) × (c .counter + 65536 * left ≤ 262144000) × (sound (cardsFrom left width source at) ≡ true) × (sum + 391 * left ≤ 1564008)
     × ((k : ℕ) × (8 + length (recordsBytes (recordsFrom (find (namesIn count table)) 1 outset (cardsOf width source))) ≡ sum + length (recordsBytes (recordsFrom (find (namesIn count table)) k c (cardsFrom left width source at)))))
 
@@ -56,8 +56,8 @@ div-left c = let w = source-whole (c .before .before .before .before .args .widt
 
 -- src/lib.rt:134:5
 loop-holds : tie.Need-loop-holds Inv-loop μ-loop
-loop-holds c = 
-    let a = c .before .before .before .before .args in let look = find (namesIn (a .count) (a .table .now)) in let w = source-whole (c .before .before .before .before .args .width) (length (c .before .before .before .before .args .source .now)) (c .before .before .before .before .pre .0 .0) in 
+loop-holds c =
+    let a = c .before .before .before .before .args in let look = find (namesIn (a .count) (a .table .now)) in let w = source-whole (c .before .before .before .before .args .width) (length (c .before .before .before .before .args .source .now)) (c .before .before .before .before .pre .0 .0) in
     let all = cards-all (a .width) (a .source .now) in let n = w .cards in let few = w .few in
     rw (c .first-course .ensures) (omega arith, omega arith, sym (ap sound all) ∙ c .before .before .before .before .pre .0 .1, omega arith, (1, ap (λ ss. 8 + length (recordsBytes (recordsFrom look 1 outset ss))) all))
 
@@ -93,7 +93,7 @@ text-count-requires c κs = search needs
 
 -- src/lib.rt:138:16
 record-length-requires : tie.Need-record-length-requires Inv-loop μ-loop
-record-length-requires c κs = 
+record-length-requires c κs =
     let x = c .before .before .make-card .result in let s = c .before .before .before .card-at .result .now in let f = fits (c .before .before) .text in let o = part s (x .from) (x .end - x .from) in
     let short = text-short (x .text) o f in let half = text-half (x .text) o f in (omega arith, omega arith)
 
@@ -115,8 +115,8 @@ loop-less c = omega arith
 
 -- src/lib.rt:134:5
 loop-again : tie.Need-loop-again Inv-loop μ-loop
-loop-again c = 
-    let a = c .before .before .before .before .before .before .before .before .before .before .before .before .args in let look = find (namesIn (a .count) (a .table .now)) in 
+loop-again c =
+    let a = c .before .before .before .before .before .before .before .before .before .before .before .before .args in let look = find (namesIn (a .count) (a .table .now)) in
     let l = c .before .before .before .before .before .before .before .loop in let is = card (c .before .before .before .before .before) in let taken = c .before .before .before .before .before .before .loop-test .taken in let ok = good (c .before .before .before .before .before) in let e = made (c .before .before .before .before) in
     let x = c .before .before .before .before .make-card .result in let most = course-most (a .width) (a .source .now) (l .at) (l .left) _ is taken look 0 (l .c) x e ok in
     let size = c .before .before .before .text-length in let count = c .before .before .text-count in let n = c .before .record-length in
@@ -127,8 +127,8 @@ loop-again c =
 
 -- src/lib.rt:124:1
 returns : tie.Need-returns Inv-loop μ-loop
-returns c = 
-    let a = c .before .before .before .before .before .before .args in let look = find (namesIn (a .count) (a .table .now)) in 
+returns c =
+    let a = c .before .before .before .before .before .before .args in let look = find (namesIn (a .count) (a .table .now)) in
     let l = c .before .loop in let none = ap length (records-done (a .width) (a .source .now) (l .at) (l .left) (omega arith) look (l .inv .4 .0) (l .c)) in let so-far = l .inv .4 .1 in
     (omega (arith, book-long look (cardsOf (a .width) (a .source .now))), omega arith)
 

@@ -29,7 +29,7 @@ enum-known-l c = search needs
 
 -- src/lib.rt:93:34
 check-line-requires : tie.Need-check-line-requires
-check-line-requires c κs = 
+check-line-requires c κs =
     let p = c .before .before .before .before .before .before .pre in let e = sym (c .before .before .before .read-line .ensures) ∙ c .before .l .given .1 in
     let w = line-sound (c .before .l .given .0 .0) (sym (ap soundReading e) ∙ p .0 .0) .1 in
     ((e, omega arith), p .1)

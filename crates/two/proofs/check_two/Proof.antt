@@ -27,7 +27,7 @@ use Rattle.two.proofs.check_card.Reads as check-card-reads
 use Rattle.two.proofs.first_course.Reads as first-course-reads
 
 abbrev Inv-loop : tie.InvT-loop
-Inv-loop width source table count columns c₀ left₀ at₀ k₀ c left at k = 
+Inv-loop width source table count columns c₀ left₀ at₀ k₀ c left at k =
     (at + width * left ≡ length source) × (c .counter + 65536 * left ≤ 262144000) × (k + left ≤ 4001) × (sound (cardsFrom left width source at) ≡ true)
     × (checkTwo (find (namesIn count table)) 1 outset (cardsOf width source) ≡ checkTwo (find (namesIn count table)) k c (cardsFrom left width source at))
 
@@ -52,7 +52,7 @@ div-left c = let w = source-whole (c .before .before .before .before .args .widt
 
 -- src/lib.rt:108:5
 loop-holds : tie.Need-loop-holds Inv-loop μ-loop
-loop-holds c = let w = source-whole (c .before .before .before .before .args .width) (length (c .before .before .before .before .args .source .now)) (c .before .before .before .before .pre .0 .0) in 
+loop-holds c = let w = source-whole (c .before .before .before .before .args .width) (length (c .before .before .before .before .args .source .now)) (c .before .before .before .before .pre .0 .0) in
     let all = cards-all (c .before .before .before .before .args .width) (c .before .before .before .before .args .source .now) in let n = w .cards in let few = w .few in
     rw (c .first-course .ensures) (omega arith, omega arith, omega arith, sym (ap sound all) ∙ c .before .before .before .before .pre .0 .1, ap (checkTwo _ 1 outset) all)
 
@@ -74,7 +74,7 @@ turn c = c .check-card .ensures
 
 -- src/lib.rt:113:13
 returns : tie.Need-returns Inv-loop μ-loop
-returns c = 
+returns c =
     let l = c .before .before .before .before .loop in let n = ap (λ (t : Turn). t .number) (turn (c .before)) in
     sym (l .inv .4 ∙ check-bad _ _ _ _ _ (card (c .before .before)) (c .before .before .before .loop-test .taken) _ (l .k) (l .c) (λ z. c .if1 .taken (n ∙ z)) ∙ ap (λ i. Bad i (l .k)) (sym n))
 
@@ -96,7 +96,7 @@ loop-less c = omega arith
 
 -- src/lib.rt:108:5
 loop-again : tie.Need-loop-again Inv-loop μ-loop
-loop-again c = 
+loop-again c =
     let a = c .before .before .before .before .before .before .before .before .before .before .args in let l = c .before .before .before .before .before .loop in let look = find (namesIn (a .count) (a .table .now)) in let e = turn (c .before .before) in
     let g = ap (λ (t : Turn). t .course) e in
     let is = card (c .before .before .before) in let taken = c .before .before .before .before .loop-test .taken in let ok = sound-on _ _ _ _ _ is taken (l .inv .3) in
@@ -107,7 +107,7 @@ loop-again c =
       omega arith,
       ok .1,
       l .inv .4 ∙ check-on _ _ _ _ _ is taken look (l .k) (l .c) (sym (ap (λ (t : Turn). t .number) e) ∙ c .before .if1 .left)
-      ∙ ap (λ x. checkTwo look (l .k + 1) x (cardsFrom (l .left - 1) (a .width) (a .source .now) (l .at + a .width))) (sym g),
+          ∙ ap (λ x. checkTwo look (l .k + 1) x (cardsFrom (l .left - 1) (a .width) (a .source .now) (l .at + a .width))) (sym g),
     )
 
 -- src/lib.rt:98:1

@@ -34,7 +34,7 @@ use Rattle.two.proofs.records.put_header.Reads as put-header-reads
 use Rattle.two.proofs.records.put_made.Reads as put-made-reads
 
 abbrev Inv-loop : tie.InvT-loop
-Inv-loop width source table count out₀ columns c₀ entry₀ left₀ at₀ k₀ to₀ out c entry left at k to = 
+Inv-loop width source table count out₀ columns c₀ entry₀ left₀ at₀ k₀ to₀ out c entry left at k to =
     (at + width * left ≡ length source) × (c .counter + 65536 * left ≤ 262144000) × (k + left ≤ 4001) × (sound (cardsFrom left width source at) ≡ true) × (to + 391 * left ≤ 1564008) × (length out ≡ length out₀)
     × (8 + length (recordsBytes (recordsFrom (find (namesIn count table)) 1 outset (cardsOf width source))) ≡ to + length (recordsBytes (recordsFrom (find (namesIn count table)) k c (cardsFrom left width source at))))
     × (sets out₀ 8 (recordsBytes (recordsFrom (find (namesIn count table)) 1 outset (cardsOf width source))) ≡ sets out to (recordsBytes (recordsFrom (find (namesIn count table)) k c (cardsFrom left width source at))))
@@ -61,8 +61,8 @@ div-left c = let w = source-whole (c .before .before .before .before .before .ar
 
 -- src/lib.rt:160:5
 loop-holds : tie.Need-loop-holds Inv-loop μ-loop
-loop-holds c = 
-    let a = c .before .before .before .before .before .args in let look = find (namesIn (a .count) (a .table .now)) in let w = source-whole (c .before .before .before .before .before .args .width) (length (c .before .before .before .before .before .args .source .now)) (c .before .before .before .before .before .pre .0 .0) in 
+loop-holds c =
+    let a = c .before .before .before .before .before .args in let look = find (namesIn (a .count) (a .table .now)) in let w = source-whole (c .before .before .before .before .before .args .width) (length (c .before .before .before .before .before .args .source .now)) (c .before .before .before .before .before .pre .0 .0) in
     let all = cards-all (a .width) (a .source .now) in let n = w .cards in let few = w .few in
     rw (c .first-course .ensures) (
       omega arith,
@@ -106,8 +106,8 @@ behind c = let a = c .before .before .before .before .before .before .before .be
 
 -- src/lib.rt:164:9
 put-made-requires : tie.Need-put-made-requires Inv-loop μ-loop
-put-made-requires c κs = 
-    let a = c .before .before .before .before .before .before .before .before .before .before .args in let look = find (namesIn (a .count) (a .table .now)) in 
+put-made-requires c κs =
+    let a = c .before .before .before .before .before .before .before .before .before .before .args in let look = find (namesIn (a .count) (a .table .now)) in
     let l = c .before .before .before .before .loop in let more = behind (c .before) in let so-far = l .inv .6 in let same = l .inv .5 in let room = c .before .before .before .before .before .before .before .before .before .before .pre .1 .1 in
     (fits (c .before), omega (arith, book-long look (cardsOf (a .width) (a .source .now))))
 
@@ -133,8 +133,8 @@ loop-less c = omega arith
 
 -- src/lib.rt:160:5
 loop-again : tie.Need-loop-again Inv-loop μ-loop
-loop-again c = 
-    let a = c .before .before .before .before .before .before .before .before .before .before .before .before .before .before .before .args in let look = find (namesIn (a .count) (a .table .now)) in 
+loop-again c =
+    let a = c .before .before .before .before .before .before .before .before .before .before .before .before .before .before .before .args in let look = find (namesIn (a .count) (a .table .now)) in
     let l = c .before .before .before .before .before .before .before .before .before .loop in let is = card (c .before .before .before .before .before .before .before) in let taken = c .before .before .before .before .before .before .before .before .loop-test .taken in let ok = good (c .before .before .before .before .before .before .before) in let e = made (c .before .before .before .before .before .before) in let x = c .before .before .before .before .before .before .make-card .result in let p = c .before .before .before .before .put-made in
     let most = course-most (a .width) (a .source .now) (l .at) (l .left) _ is taken look 0 (l .c) x e ok in let more = behind (c .before .before .before .before .before .before) in let so-far = l .inv .6 in
     let there = p .ensures .0 .0 in let near = p .ensures .0 .1 in
@@ -156,8 +156,8 @@ entry-in-requires c κs = search needs
 
 -- src/lib.rt:171:5
 put-header-requires : tie.Need-put-header-requires Inv-loop μ-loop
-put-header-requires c κs = 
-    let a = c .before .before .before .before .before .before .before .before .before .args in let look = find (namesIn (a .count) (a .table .now)) in 
+put-header-requires c κs =
+    let a = c .before .before .before .before .before .before .before .before .before .args in let look = find (namesIn (a .count) (a .table .now)) in
     let l = c .before .before .before .loop in let none = ap length (records-done (a .width) (a .source .now) (l .at) (l .left) (omega arith) look (l .k) (l .c)) in
     let so-far = l .inv .6 in let short = l .inv .4 in let same = l .inv .5 in let room = c .before .before .before .before .before .before .before .before .before .pre .1 .1 in
     (omega arith, omega arith, omega (arith, book-long look (cardsOf (a .width) (a .source .now))))
@@ -168,8 +168,8 @@ same-length c = c .before .before .put-header .kept .1 .1 .0 ∙ c .before .befo
 
 -- src/lib.rt:147:1
 returns : tie.Need-returns Inv-loop μ-loop
-returns c = 
-    let a = c .before .before .before .before .before .before .before .before .before .before .before .before .args in let look = find (namesIn (a .count) (a .table .now)) in 
+returns c =
+    let a = c .before .before .before .before .before .before .before .before .before .before .before .before .args in let look = find (namesIn (a .count) (a .table .now)) in
     let l = c .before .before .before .before .before .before .loop in let none = records-done (a .width) (a .source .now) (l .at) (l .left) (omega arith) look (l .k) (l .c) in
     let n = ap length none in let so-far = l .inv .6 in
     book-laid look (cardsOf (a .width) (a .source .now)) (a .out .now) (l .out) _ (l .to) (c .before .before .before .before .entry-in .result)

@@ -38,7 +38,7 @@ enum-known-l c = search needs
 
 -- src/making.rt:186:34
 make-line-requires : tie.Need-make-line-requires
-make-line-requires c κs = 
+make-line-requires c κs =
     let p = c .before .before .before .before .before .before .pre in let e = sym (c .before .before .before .read-line .ensures) ∙ c .before .l .given .1 in
     let w = line-sound (c .before .l .given .0 .0) (sym (ap soundReading e) ∙ p .0 .0) .1 in
     ((e, omega arith), p .1)

@@ -47,7 +47,7 @@ same-length c = simp length-set (c .before .before .put-word3 .kept .0 ∙ c .be
 
 -- src/records.rt:55:1
 returns : tie.Need-returns
-returns c = 
+returns c =
     let a = c .before .before .before .before .before .before .before .before .before .before .before .before .before .args in let r = c .before .before .before .before .before .before .before .before .before .before .put-word in let k = c .before .before .before .before .before .before .put-word2 in let p = c .before .before .put-word3 in
     then (a .m .now) _ _ (a .to) _ (twoBytes (a .rest)) (twoBytes (a .card) ++ (twoBytes (a .address) ++ (a .count ∷ []))) (r .ensures) refl
     (then (r .last .0) _ _ (a .to + 2) (a .to + 4) (twoBytes (a .card)) (twoBytes (a .address) ++ (a .count ∷ [])) (k .ensures) (omega arith)

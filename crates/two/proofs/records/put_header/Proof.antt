@@ -48,7 +48,7 @@ same-length c = c .before .before .put-entry .kept .1 .0 ∙ simp length-set (c 
 
 -- src/records.rt:137:1
 returns : tie.Need-returns
-returns c = 
+returns c =
     let a = c .before .before .before .before .before .before .before .before .before .before .before .before .before .args in let r = a .size - 4 in
     then (a .m .now) _ _ 0 _ (twoBytes (r / 65536)) (twoBytes (r % 65536) ++ (1 ∷ entryBytes (a .e))) (c .before .before .before .before .before .before .before .before .before .before .put-word .ensures) refl
     (then (c .before .before .before .before .before .before .before .before .before .before .put-word .last .0) _ _ 2 4 (twoBytes (r % 65536)) (1 ∷ entryBytes (a .e)) (c .before .before .before .before .before .before .put-word2 .ensures) refl

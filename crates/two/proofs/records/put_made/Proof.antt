@@ -55,21 +55,23 @@ same-length c = search needs
 
 -- src/records.rt:102:1
 returns : tie.Need-returns
-returns c = 
-    let a = c .before .before .before .before .before .before .before .before .before .before .before .args in let f = c .before .before .before .before .before .before .before .before .before .before .before .pre .0 in let t = a .x .text in let o = part (a .s .now) (a .x .from) (a .x .end - a .x .from) in 
+returns c =
+    let a = c .before .before .before .before .before .before .before .before .before .before .before .args in let f = c .before .before .before .before .before .before .before .before .before .before .before .pre .0 in let t = a .x .text in let o = part (a .s .now) (a .x .from) (a .x .end - a .x .from) in
     let size = c .before .before .before .before .before .before .before .before .text-length in let count = c .before .before .before .before .before .before .before .text-count in let n = c .before .before .before .before .before .before .record-length in
-    let is : n .result ≡ recordLength (textLength t) (length (textFields t)) = n .ensures .0 ∙ ap (λ i. recordLength i (count .result)) (size .ensures) ∙ ap (recordLength (textLength t)) (count .ensures) in
-    ((ap (λ i. a .to + i) is, let few = n .ensures .1 in omega arith),
-      c .before .before .put-record .ensures ∙ ap (sets (a .m .now) (a .to)) (sym (record-some (a .card) (a .address) (textPieces t o) (λ z. c .before .before .before .before .before .if1 .taken (size .ensures ∙ sym (length-is t o (f .text)) ∙ z)))))
+    let is : n .result ≡ recordLength (textLength t) (length (textFields t)) = n .ensures .0 ∙ ap (λ i. recordLength i (count .result)) (size .ensures) ∙ ap (recordLength (textLength t)) (count .ensures) in (
+      (ap (λ i. a .to + i) is, let few = n .ensures .1 in omega arith),
+      c .before .before .put-record .ensures ∙ ap (sets (a .m .now) (a .to)) (sym (record-some (a .card) (a .address) (textPieces t o) (λ z. c .before .before .before .before .before .if1 .taken (size .ensures ∙ sym (length-is t o (f .text)) ∙ z)))),
+    )
 
 -- src/records.rt:102:1
 returns-2 : tie.Need-returns-2
-returns-2 c = 
-    let a = c .before .before .before .before .before .before .args in let f = c .before .before .before .before .before .before .pre .0 in let t = a .x .text in let o = part (a .s .now) (a .x .from) (a .x .end - a .x .from) in 
+returns-2 c =
+    let a = c .before .before .before .before .before .before .args in let f = c .before .before .before .before .before .before .pre .0 in let t = a .x .text in let o = part (a .s .now) (a .x .from) (a .x .end - a .x .from) in
     let size = c .before .before .before .text-length in let count = c .before .before .text-count in let n = c .before .record-length in
-    let is : n .result ≡ recordLength (textLength t) (length (textFields t)) = n .ensures .0 ∙ ap (λ i. recordLength i (count .result)) (size .ensures) ∙ ap (recordLength (textLength t)) (count .ensures) in
-    ((ap (λ i. a .to + i) is, let few = n .ensures .1 in omega arith),
-      ap (sets (a .m .now) (a .to)) (sym (record-none (a .card) (a .address) (textPieces t o) (length-is t o (f .text) ∙ sym (size .ensures) ∙ c .if1 .left))))
+    let is : n .result ≡ recordLength (textLength t) (length (textFields t)) = n .ensures .0 ∙ ap (λ i. recordLength i (count .result)) (size .ensures) ∙ ap (recordLength (textLength t)) (count .ensures) in (
+      (ap (λ i. a .to + i) is, let few = n .ensures .1 in omega arith),
+      ap (sets (a .m .now) (a .to)) (sym (record-none (a .card) (a .address) (textPieces t o) (length-is t o (f .text) ∙ sym (size .ensures) ∙ c .if1 .left))),
+    )
 
 pub put-made-spec : {M : Type 1} → statement M
 put-made-spec =

@@ -74,7 +74,7 @@ same-length c = search needs
 
 -- src/records.rt:87:1
 returns : tie.Need-returns
-returns c = 
+returns c =
     let a = c .before .before .before .before .before .before .before .before .before .before .before .before .before .before .before .before .args in let f = c .before .before .before .before .before .before .before .before .before .before .before .before .before .before .before .before .pre .0 in let h = c .before .before .before .before .before .before .before .before .before .before .put-head in let x = c .before .before .before .before .before .before .put-text-fields in let y = c .before .before .put-text-bytes in
     let size = c .before .before .before .before .before .before .before .before .before .before .before .before .before .text-length in let count = c .before .before .before .before .before .before .before .before .before .before .before .before .text-count in
     let ps = textPieces (a .t) (a .o .now) in

@@ -1,0 +1,80 @@
+// The whole assembly: refusals 1, 2 and 3, both passes, 30, the book; then the work area is cleared.
+use cards::source::source_no;
+use names::clear;
+use one::One;
+use one::run_one;
+use passes::Assembled;
+use passes::Checked;
+use two::book_length;
+use two::check_two;
+use two::write_book;
+ghost use mathlib.Core.Path.{_≡_};
+ghost use mathlib.Core.Bool.{true};
+ghost use Prim.Native.Nat.{_*_, _≤_};
+ghost use lib.ListN.{length, drop};
+ghost use Rattle.names.specs.Names.{find, ascending};
+ghost use Rattle.names.specs.Table.{namesIn};
+ghost use Rattle.cards.specs.Source.{sourceNo, cardsOf};
+ghost use Rattle.book.specs.Writing.{bookBytes};
+ghost use Rattle.passes.specs.Sound.{sound};
+ghost use Rattle.passes.specs.Two.{outset, checkTwo, bookFrom};
+ghost use Rattle.passes.specs.Assembly.{afterTwo, assembled, written, outcomeOf, assembling};
+
+// 30, or the book in the output.
+fn write(width: usize, source: &[u8], table: &[u8], count: usize, out: &mut [u8]) -> Assembled
+    requires { ⌜ (sourceNo width (length (now source)) ≡ 0) × (sound (cardsOf width (now source)) ≡ true) ⌝ }
+    requires { ⌜ (16 * count ≤ length (now table)) × (ascending (namesIn count (now table)) ≡ true) × (count ≤ 512) ⌝ }
+    ensures { λ r. ⌜ r ≡ written count (bookBytes (bookFrom (find (namesIn count (now (table .entry)))) (cardsOf width (now (source .entry))))) (now (table .entry)) (now (out .entry)) .answer ⌝ }
+    ensures { λ _. ⌜ now (out .exit) ≡ written count (bookBytes (bookFrom (find (namesIn count (now (table .entry)))) (cardsOf width (now (source .entry))))) (now (table .entry)) (now (out .entry)) .out ⌝ }
+{
+    let length = book_length(width, source, table, count);
+    if out.len() < length {
+        return Assembled::Refused(30, 0);
+    }
+    write_book(width, source, table, count, out);
+    Assembled::Made(length as u32, count as u16)
+}
+
+// Pass two over the names that pass one has found.
+fn finish(width: usize, source: &[u8], table: &[u8], count: usize, out: &mut [u8]) -> Assembled
+    requires { ⌜ (sourceNo width (length (now source)) ≡ 0) × (sound (cardsOf width (now source)) ≡ true) ⌝ }
+    requires { ⌜ (16 * count ≤ length (now table)) × (ascending (namesIn count (now table)) ≡ true) × (count ≤ 512) ⌝ }
+    ensures { λ r. ⌜ r ≡ outcomeOf (afterTwo (cardsOf width (now (source .entry))) (namesIn count (now (table .entry))) (checkTwo (find (namesIn count (now (table .entry)))) 1 outset (cardsOf width (now (source .entry))))) (now (table .entry)) (now (out .entry)) .answer ⌝ }
+    ensures { λ _. ⌜ now (out .exit) ≡ outcomeOf (afterTwo (cardsOf width (now (source .entry))) (namesIn count (now (table .entry))) (checkTwo (find (namesIn count (now (table .entry)))) 1 outset (cardsOf width (now (source .entry))))) (now (table .entry)) (now (out .entry)) .out ⌝ }
+{
+    match check_two(width, source, table, count) {
+        Checked::Bad(number, card) => Assembled::Refused(number, card),
+        Checked::Clean => write(width, source, table, count, out),
+    }
+}
+
+// Both passes and the book; the first 8,192 bytes of the work area are left as they fall.
+fn translate(width: usize, source: &[u8], work: &mut [u8], out: &mut [u8]) -> Assembled
+    requires { ⌜ (sourceNo width (length (now source)) ≡ 0) × (8192 ≤ length (now work)) ⌝ }
+    ensures { λ r. ⌜ r ≡ outcomeOf (assembled (cardsOf width (now (source .entry)))) (now (work .entry)) (now (out .entry)) .answer ⌝ }
+    ensures { λ _. ⌜ drop 8192 (now (work .exit)) ≡ drop 8192 (now (work .entry)) ⌝ }
+    ensures { λ _. ⌜ now (out .exit) ≡ outcomeOf (assembled (cardsOf width (now (source .entry)))) (now (work .entry)) (now (out .entry)) .out ⌝ }
+{
+    match run_one(width, source, work) {
+        One::Stopped(number, card) => Assembled::Refused(number, card),
+        One::Through(p) => finish(width, source, work, p.count, out),
+    }
+}
+
+// Assembles any source of any width, with any work area and any output.
+pub fn assemble_cards(width: u32, source: &[u8], work: &mut [u8], out: &mut [u8]) -> Assembled
+    ensures { λ r. ⌜ r ≡ assembling width (now (source .entry)) (now (work .entry)) (now (out .entry)) .answer ⌝ }
+    ensures { λ _. ⌜ now (work .exit) ≡ assembling width (now (source .entry)) (now (work .entry)) (now (out .entry)) .work ⌝ }
+    ensures { λ _. ⌜ now (out .exit) ≡ assembling width (now (source .entry)) (now (work .entry)) (now (out .entry)) .out ⌝ }
+{
+    let number = source_no(width, source.len());
+    if number != 0 {
+        return Assembled::Refused(number, 0);
+    }
+    if work.len() < 8192 {
+        return Assembled::Refused(3, 0);
+    }
+    let answer = translate(width as usize, source, work, out);
+    clear(work, 8192);
+    answer
+}
