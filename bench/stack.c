@@ -20,7 +20,7 @@ static const char *const cards[] = {
     "      MVC   TABLE(SIZE-5,2),GO(,1)",
     "      MVX   TABLE(1),GO",
     "      MZZ   TABLE(,2),GO",
-    "      MVI   TABLE(2),C'A'''",
+    "      MVI   TABLE(2),C''''",
     "      LA    TABLE,1",
     "      BC    GO(1),X'87'",
     "      BE    GO",
