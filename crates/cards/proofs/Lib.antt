@@ -1,2 +1,3 @@
 -- The laws of cards that other crates cite.
 pub mod Laws
+pub mod Whole

@@ -1,9 +1,9 @@
--- What callers cite of a line: its operand lies inside the columns, and its name's number has six bytes.
+-- What callers cite of a line: its operand lies inside the columns, its name's number has six bytes, and its shape is its operation's.
 use Prim.{Unit, tt}
 use Prim.Native.Nat.{ℕ, _-_, _≤_, _<_}
 use mathlib.Core.List.{List}
 use mathlib.Core.Bool.{Bool, true, false}
-use mathlib.Core.Path.{_≡_, refl, sym, _∙_, subst}
+use mathlib.Core.Path.{_≡_, sym, _∙_, subst}
 use native.Mathlib.Omega.{arith}
 use lib.ListN.{length}
 use Rattle.values.specs.Tests.{pick}
@@ -17,10 +17,11 @@ use Rattle.cards.specs.declared.Card.{Card}
 use Rattle.cards.specs.declared.Card.the-variants.{Comment as CardComment, BadName as CardBadName, Statement as CardStatement}
 use Rattle.cards.specs.Fields.{blankAt, fieldsFrom, nameEnds, namedCard, cardOf}
 use Rattle.cards.proofs.Laws.{Ordered, CardWithin, card-within}
+use Rattle.forms.specs.Shape.{shapeOf}
 use Rattle.lines.specs.declared.Line.{Line}
 use Rattle.lines.specs.declared.Reading.{Reading}
 use Rattle.lines.specs.declared.Reading.the-variants.{Comment, BadName, Statement}
-use Rattle.lines.specs.Lines.{lineOf, readingFrom, readingOf}
+use Rattle.lines.specs.Lines.{lineOf, readingFrom, readingOf, operandIn}
 
 module _ (s : List ℕ) where
   pub record LineWithin (l : Line) : Type 0 where
@@ -71,3 +72,13 @@ module _ (s : List ℕ) where
 
   pub line-within : (l : Line) → readingOf s ≡ Statement l → LineWithin l
   line-within l e = subst ReadingWithin e reading-within
+
+  -- the shape of a line is that of its operation's operand
+  pub line-shape : (l : Line) → readingOf s ≡ Statement l → l .shape ≡ shapeOf (l .operation) (operandIn s l)
+  unfolding readingOf lineOf
+  line-shape l e = go (cardOf s) e
+    where
+      go : (c : Card) → readingFrom s c ≡ Statement l → l .shape ≡ shapeOf (l .operation) (operandIn s l)
+      go CardComment e = let z : _≡_ {A = ℕ} 0 1 = cc in absurd (omega arith)
+      go CardBadName e = let z : _≡_ {A = ℕ} 0 1 = cc in absurd (omega arith)
+      go (CardStatement f) e = let same : l ≡ lineOf s f = cc in rw same

@@ -1,3 +1,5 @@
 -- The laws of the passes.
 pub mod Turns
 pub mod Fine
+pub mod Names
+pub mod Counter

@@ -1,9 +1,21 @@
 // What both passes make of a card: its part in the counter and the names, and the answer of an assembly.
 use forms::Shape;
+use forms::size_of;
+use lines::Line;
+use names::amount_of;
 use operations::Operation;
+use statements::lone_value;
+use statements::operands::Operands;
+use statements::operands::operands_of;
 use statements::places::Bases;
 ghost use mathlib.Core.Path.{_≡_};
-ghost use Rattle.passes.specs.Cards.{roleOf, startValue};
+ghost use mathlib.Core.Bool.{true};
+ghost use Prim.Native.Nat.{_+_, _*_, _^_, _≤_, _<_};
+ghost use lib.ListN.{length};
+ghost use Rattle.names.specs.Names.{find, ascending};
+ghost use Rattle.names.specs.Table.{namesIn};
+ghost use Rattle.forms.specs.Size.{sizeOf};
+ghost use Rattle.passes.specs.Cards.{roleOf, startValue, operandsAt, counterBy};
 
 // What a card does to the counter and the names, beside making bytes.
 pub enum Role {
@@ -81,5 +93,39 @@ pub fn start_value(x: Shape) -> u16
         Shape::Only(_) => 0,
         Shape::Constant(_) => 0,
         Shape::Reserve(_) => 0,
+    }
+}
+
+// What the expressions of a line come to, over the names of the table and the counter at the start of the card.
+pub fn operands_at(l: Line, card: &[u8], table: &[u8], count: usize, counter: u32) -> Operands
+    requires { ⌜ (l .operand ≤ l .end) × (l .end ≤ length (now card)) ⌝ }
+    requires { ⌜ (16 * count ≤ length (now table)) × (ascending (namesIn count (now table)) ≡ true) ⌝ }
+    ensures { λ r. ⌜ r ≡ operandsAt (find (namesIn count (now (table .entry)))) counter (now (card .entry)) l ⌝ }
+{
+    let shape = l.shape;
+    let from = l.operand;
+    let end = l.end;
+    operands_of(shape, &card[from..end], table, count, counter)
+}
+
+fn widened(n: u16) -> u32
+    ensures { λ r. ⌜ r ≡ n ⌝ }
+{
+    n as u32
+}
+
+// The counter behind a card of a role, whose expressions came to x.
+pub fn counter_by(role: Role, x: Operands, counter: u32, l: Line) -> u32
+    requires { ⌜ counter + sizeOf (l .operation) (l .shape) < 2 ^ 32 ⌝ }
+    ensures { λ r. ⌜ r ≡ counterBy role x counter l ⌝ }
+{
+    let operation = l.operation;
+    let shape = l.shape;
+    match role {
+        Role::Starts => widened(start_value(shape)),
+        Role::Equates => counter,
+        Role::SetsCounter => widened(amount_of(lone_value(x))),
+        Role::Ends => counter,
+        Role::Makes => counter + size_of(operation, shape) as u32,
     }
 }

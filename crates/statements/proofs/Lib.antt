@@ -1,0 +1,2 @@
+-- The laws of statements that other crates cite.
+pub mod Fits
