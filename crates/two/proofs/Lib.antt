@@ -1,0 +1,4 @@
+-- The laws of pass two's code.
+pub mod Cards
+pub mod Writing
+pub mod Loops

@@ -1,0 +1,52 @@
+-- `check_card` meets its contract: what was read is the card's reading.
+use native.Mathlib.Omega.{arith}
+use mathlib.Core.Path.{sym, _∙_, ap}
+use Rattle.two.proofs.Cards.{line-sound}
+use Rattle.passes.specs.Two.{twoNo, stepTwo}
+use Rattle.passes.specs.Sound.{soundReading}
+use borrow.Author.Needs.{needs}
+use Rattle.two.proofs.check_card.Statement.{statement}
+use Rattle.two.proofs.check_card.Tie as tie
+
+read-line-requires : tie.Need-read-line-requires
+read-line-requires c κs = search needs
+
+enum-told : tie.Need-enum-told
+enum-told c = search needs
+
+enum-told-2 : tie.Need-enum-told-2
+enum-told-2 c = search needs
+
+enum-known-l : tie.Need-enum-known-l
+enum-known-l c = search needs
+
+check-line-requires : tie.Need-check-line-requires
+check-line-requires c κs =
+    let p = c .before .before .before .before .before .before .pre in let e = sym (c .before .before .before .read-line .ensures) ∙ c .before .l .given .1 in
+    let w = line-sound (c .before .l .given .0 .0) (sym (ap soundReading e) ∙ p .0 .0) .1 in
+    ((e, omega arith), p .1)
+
+returns : tie.Need-returns
+unfolding twoNo stepTwo
+returns c = rw (sym (c .before .before .read-line .ensures), c .enum-told .given .1)
+
+returns-2 : tie.Need-returns-2
+unfolding twoNo stepTwo
+returns-2 c = rw (sym (c .before .before .read-line .ensures), c .enum-told2 .given .1)
+
+returns-3 : tie.Need-returns-3
+unfolding twoNo stepTwo
+returns-3 c = rw (sym (c .before .before .before .before .read-line .ensures), c .before .before .l .given .1) (c .check-line .ensures)
+
+pub check-card-spec : {M : Type 1} → statement M
+check-card-spec =
+    tie.close
+    (tie.spec
+    read-line-requires
+    enum-told
+    enum-told-2
+    enum-known-l
+    check-line-requires
+    returns
+    returns-2
+    returns-3)

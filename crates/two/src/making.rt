@@ -1,0 +1,188 @@
+// What a card makes: where its text comes from, and the entry if it is END.
+use book::Entry;
+use data::Data;
+use data::DataType;
+use forms::Shape;
+use lines::Line;
+use lines::Reading;
+use lines::read_line;
+use passes::Course;
+use passes::Role;
+use passes::counter_by;
+use passes::operands_at;
+use passes::role_of;
+use statements::Statement;
+use statements::bases_after;
+use statements::lone_value;
+use statements::operands::Operands;
+use statements::statement_from;
+use values::Value;
+ghost use mathlib.Core.Path.{_≡_};
+ghost use mathlib.Core.Bool.{true};
+ghost use Prim.Native.Nat.{_+_, _*_, _^_, _≤_, _<_};
+ghost use lib.ListN.{length};
+ghost use Rattle.names.specs.Names.{find, ascending};
+ghost use Rattle.names.specs.Table.{namesIn};
+ghost use Rattle.forms.specs.Size.{sizeOf};
+ghost use Rattle.lines.specs.declared.Reading.the-variants.{Statement as Stated};
+ghost use Rattle.lines.specs.Lines.{readingOf};
+ghost use Rattle.passes.specs.Sound.{soundReading};
+ghost use Rattle.passes.specs.Two.{entryBy};
+ghost use Rattle.book.specs.declared.Entry.the-variants.{Absent};
+ghost use Rattle.two.specs.Steps.{courseBy, textBy, textFrom, entryOr, soughtBy, firstOf, readingMade, madeNone, cardMade};
+
+// The columns of a constant of type C, X or D, or a statement.
+pub enum Text {
+    Columns(Data),
+    Stated(Statement),
+}
+
+// The entry: END is not met yet, or it said this.
+pub enum Sought {
+    Open,
+    Found(Entry),
+}
+
+// What a card makes. `from` and `end`: where the columns of its operand start and end.
+pub struct Made {
+    pub text: Text,
+    pub from: usize,
+    pub end: usize,
+    pub entry: Sought,
+    pub course: Course,
+}
+
+// Where pass two stands behind a line whose expressions came to x.
+pub fn course_after(c: Course, l: Line, x: Operands) -> Course
+    requires { ⌜ c .counter + sizeOf (l .operation) (l .shape) < 2 ^ 32 ⌝ }
+    ensures { λ r. ⌜ r ≡ courseBy c l x ⌝ }
+{
+    let operation = l.operation;
+    let bases = c.bases;
+    let counter = counter_by(role_of(operation), x, c.counter, l);
+    let behind = bases_after(operation, x, bases);
+    Course {
+        counter: counter,
+        bases: behind,
+    }
+}
+
+fn text_by(kind: DataType, d: Data, st: Statement) -> Text
+    ensures { λ r. ⌜ r ≡ textBy kind d st ⌝ }
+{
+    match kind {
+        DataType::Characters => Text::Columns(d),
+        DataType::Hexadecimal => Text::Columns(d),
+        DataType::Decimal => Text::Columns(d),
+        DataType::Address => Text::Stated(st),
+    }
+}
+
+fn text_from(shape: Shape, st: Statement) -> Text
+    ensures { λ r. ⌜ r ≡ textFrom shape st ⌝ }
+{
+    match shape {
+        Shape::Fails(_) => Text::Stated(st),
+        Shape::Nothing => Text::Stated(st),
+        Shape::StartAt(_) => Text::Stated(st),
+        Shape::Expression => Text::Stated(st),
+        Shape::Pair(_) => Text::Stated(st),
+        Shape::Target => Text::Stated(st),
+        Shape::Two(_, _) => Text::Stated(st),
+        Shape::One(_, _) => Text::Stated(st),
+        Shape::Only(_) => Text::Stated(st),
+        Shape::Constant(d) => {
+            let kind = d.kind;
+            text_by(kind, d, st)
+        }
+        Shape::Reserve(_) => Text::Stated(st),
+    }
+}
+
+fn entry_by(v: Value) -> Entry
+    ensures { λ r. ⌜ r ≡ entryBy v ⌝ }
+{
+    match v {
+        Value::Absolute(_) => Entry::Absent,
+        Value::Relocatable(a) => Entry::At(a),
+    }
+}
+
+fn sought_by(role: Role, v: Value) -> Sought
+    ensures { λ r. ⌜ r ≡ soughtBy role v ⌝ }
+{
+    match role {
+        Role::Starts => Sought::Open,
+        Role::Equates => Sought::Open,
+        Role::SetsCounter => Sought::Open,
+        Role::Ends => Sought::Found(entry_by(v)),
+        Role::Makes => Sought::Open,
+    }
+}
+
+// The first END's entry counts.
+pub fn first_of(a: Sought, b: Sought) -> Sought
+    ensures { λ r. ⌜ r ≡ firstOf a b ⌝ }
+{
+    match a {
+        Sought::Open => b,
+        Sought::Found(_) => a,
+    }
+}
+
+// The entry behind all cards.
+pub fn entry_in(a: Sought) -> Entry
+    ensures { λ r. ⌜ r ≡ entryOr a Absent ⌝ }
+{
+    match a {
+        Sought::Open => Entry::Absent,
+        Sought::Found(e) => e,
+    }
+}
+
+fn make_line(c: Course, l: Line, card: &[u8], table: &[u8], count: usize) -> Made
+    requires { ⌜ (readingOf (now card) ≡ Stated l) × (c .counter + sizeOf (l .operation) (l .shape) < 2 ^ 32) ⌝ }
+    requires { ⌜ (16 * count ≤ length (now table)) × (ascending (namesIn count (now table)) ≡ true) ⌝ }
+    ensures { λ r. ⌜ r ≡ readingMade (find (namesIn count (now (table .entry)))) c (now (card .entry)) (Stated l) ⌝ }
+{
+    let operation = l.operation;
+    let shape = l.shape;
+    let counter = c.counter;
+    let bases = c.bases;
+    let x = operands_at(l, card, table, count, counter);
+    let text = text_from(shape, statement_from(operation, x, counter, bases));
+    let entry = sought_by(role_of(operation), lone_value(x));
+    let course = course_after(c, l, x);
+    Made {
+        text: text,
+        from: l.operand,
+        end: l.end,
+        entry: entry,
+        course: course,
+    }
+}
+
+// A comment makes nothing.
+fn make_none(c: Course) -> Made
+    ensures { λ r. ⌜ r ≡ madeNone c ⌝ }
+{
+    Made {
+        text: Text::Stated(Statement::None),
+        from: 0,
+        end: 0,
+        entry: Sought::Open,
+        course: c,
+    }
+}
+
+pub fn make_card(c: Course, card: &[u8], table: &[u8], count: usize) -> Made
+    requires { ⌜ (soundReading (readingOf (now card)) ≡ true) × (c .counter + 65536 < 2 ^ 32) ⌝ }
+    requires { ⌜ (16 * count ≤ length (now table)) × (ascending (namesIn count (now table)) ≡ true) ⌝ }
+    ensures { λ r. ⌜ r ≡ cardMade (find (namesIn count (now (table .entry)))) c (now (card .entry)) ⌝ }
+{
+    match read_line(card) {
+        Reading::Comment => make_none(c),
+        Reading::BadName => make_none(c),
+        Reading::Statement(l) => make_line(c, l, card, table, count),
+    }
+}
