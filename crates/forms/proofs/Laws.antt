@@ -40,7 +40,7 @@ use Rattle.forms.specs.declared.reading.Written.the-variants.{MayHaveLen
 use Rattle.forms.specs.declared.reading.Addressed.{Addressed}
 use Rattle.forms.specs.declared.reading.Addressed.the-variants.{Reads, Stops}
 use Rattle.forms.specs.Address.{address, behind, closed, registerAt, behindLength, lengthAt, orRegister, itemsAt, plain, behindAddress, addressAt}
-use Rattle.forms.specs.Size.{addressSize}
+use Rattle.forms.specs.Size.{addressSize, pairSize}
 use Rattle.forms.specs.Shape.{ended, behindForm, behindAddressed, behindComma, lastAt, startTerm, startOf, startShape, endShape, pairShape, firstWritten, secondWritten, twoOf, twoShape, oneShape, onlyShape, behindData, constantShape, reserveShape, shapeOf}
 
 -- WHAT IS KNOWN OF A SHAPE
@@ -374,3 +374,25 @@ two-lengths k o = first (addressAt (firstWritten k) o 0) (address-in (firstWritt
 pub address-size : (r : Item) → (1 ≤ addressSize r) × (addressSize r ≤ 2)
 address-size Absent = (omega arith, omega arith)
 address-size (At p) = (omega arith, omega arith)
+
+-- a jump has three bytes, and USING none
+pub pair-size : (op : Operation) → pairSize op ≤ 3
+pair-size Unknown = omega arith
+pair-size Start = omega arith
+pair-size Equ = omega arith
+pair-size Org = omega arith
+pair-size Dc = omega arith
+pair-size Ds = omega arith
+pair-size Using = omega arith
+pair-size Drop = omega arith
+pair-size End = omega arith
+pair-size (Decimal low) = omega arith
+pair-size (Characters low) = omega arith
+pair-size Move = omega arith
+pair-size (MoveOf item) = omega arith
+pair-size (OneAddress low) = omega arith
+pair-size (Branch low) = omega arith
+pair-size LoadAddress = omega arith
+pair-size (BranchOn q) = omega arith
+pair-size Jump = omega arith
+pair-size (JumpOn q) = omega arith

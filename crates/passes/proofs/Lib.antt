@@ -3,3 +3,4 @@ pub mod Turns
 pub mod Fine
 pub mod Names
 pub mod Counter
+pub mod Named

@@ -1,0 +1,2 @@
+-- The laws of pass one's code.
+pub mod Laws

@@ -1,0 +1,35 @@
+-- `one_no` meets its contract: each rule in its order.
+use Rattle.passes.specs.One.{oneNo}
+use borrow.Author.Needs.{needs}
+use Rattle.one.proofs.one_no.Statement.{statement}
+use Rattle.one.proofs.one_no.Tie as tie
+
+after-end-no-requires : tie.Need-after-end-no-requires
+after-end-no-requires c κs = search needs
+
+byte-no-requires : tie.Need-byte-no-requires
+byte-no-requires c κs = search needs
+
+reading-no-requires : tie.Need-reading-no-requires
+reading-no-requires c κs = search needs
+
+or-else-requires : tie.Need-or-else-requires
+or-else-requires c κs = search needs
+
+or-else-requires-2 : tie.Need-or-else-requires-2
+or-else-requires-2 c κs = search needs
+
+returns : tie.Need-returns
+unfolding oneNo
+returns c = let q = c .before .before .before .before .before .before .before .pre in rw (c .or-else2 .ensures, c .before .or-else .ensures, c .before .before .before .before .after-end-no .ensures, c .before .before .before .byte-no .ensures, c .before .before .reading-no .ensures, q .1)
+
+pub one-no-spec : {M : Type 1} → statement M
+one-no-spec =
+    tie.close
+    (tie.spec
+    after-end-no-requires
+    byte-no-requires
+    reading-no-requires
+    or-else-requires
+    or-else-requires-2
+    returns)
