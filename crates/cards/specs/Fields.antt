@@ -79,12 +79,6 @@ abbrev pub namedCard : List ℕ → Name → Card
 namedCard s (Named number next) = pick (nameEnds s next) (Statement (fieldsFrom number s next)) BadName
 namedCard s (NoName place) = BadName
 
--- 11: "bad name"
-abbrev pub cardNo : Card → ℕ
-cardNo Comment = 0
-cardNo BadName = 11
-cardNo (Statement f) = 0
-
 -- "Column 1 `*`: a comment. Else a name starts in column 1, or column 1 is blank." No name is the number 0
 unfoldable pub cardOf : List ℕ → Card
 cardOf s = pick (stands "*" s 0) Comment (pick (blankAt s 0) (Statement (fieldsFrom 0 s 0)) (namedCard s (nameAt s 0)))

@@ -10,7 +10,7 @@ ghost use Prim.Native.Nat.{_-_, _≤_};
 ghost use lib.ListN.{length};
 ghost use Rattle.values.specs.Tests.{pick, both};
 ghost use Rattle.terms.specs.Names.{nameAt};
-ghost use Rattle.cards.specs.Fields.{allAccepted, byteNo, blankAt, blanksEnd, wordEnd, turned, operandEnd, loneComma, fieldsFrom, nameEnds, namedCard, cardNo, cardOf};
+ghost use Rattle.cards.specs.Fields.{allAccepted, byteNo, blankAt, blanksEnd, wordEnd, turned, operandEnd, loneComma, fieldsFrom, nameEnds, namedCard, cardOf};
 
 // The fields of a statement: the name's number, 0 where there is none, and where operation and operand start and end. An absent one ends where it starts.
 pub struct Fields {
@@ -176,15 +176,4 @@ pub fn read_card(s: &[u8]) -> Card
         return Card::Statement(read_fields(s, 0, 0));
     }
     read_named(s)
-}
-
-// Refusal 11 of a card; 0: none.
-pub fn card_no(c: Card) -> u8
-    ensures { λ r. ⌜ r ≡ cardNo c ⌝ }
-{
-    match c {
-        Card::Comment => 0,
-        Card::BadName => 11,
-        Card::Statement(_) => 0,
-    }
 }

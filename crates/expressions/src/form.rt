@@ -3,7 +3,7 @@ use letters::byte_at;
 use terms::Term;
 use terms::read_term;
 ghost use mathlib.Core.Path.{_≡_};
-ghost use Rattle.expressions.specs.Form.{formOf, endOf, joins, factorsAt, productAt, expressionAt, formNo};
+ghost use Rattle.expressions.specs.Form.{formOf, endOf, joins, factorsAt, productAt, expressionAt};
 
 pub enum Form {
     Ends(usize),
@@ -72,15 +72,5 @@ pub fn expression_form(s: &[u8], at: usize) -> Form
                 }
             }
         }
-    }
-}
-
-// Refusal 15 of a form; 0: none.
-pub fn form_no(f: Form) -> u8
-    ensures { λ r. ⌜ r ≡ formNo f ⌝ }
-{
-    match f {
-        Form::Ends(_) => 0,
-        Form::Fails(_) => 15,
     }
 }

@@ -8,10 +8,8 @@ use codes::code_byte;
 use codes::code_no;
 use codes::code_of;
 use expressions::value_in;
-use forms::Shape;
 use kinds::expressions_no;
 use operands::Operands;
-use operands::operands_of;
 use operations::Operation;
 use places::Bases;
 use places::Operand;
@@ -26,12 +24,7 @@ use values::Absolute;
 use values::Value;
 use values::numbers::or_else;
 ghost use mathlib.Core.Path.{_≡_};
-ghost use mathlib.Core.Bool.{true};
-ghost use Prim.Native.Nat.{_*_, _≤_};
-ghost use lib.ListN.{length};
-ghost use Rattle.names.specs.Names.{find, ascending};
-ghost use Rattle.names.specs.Table.{namesIn};
-ghost use Rattle.statements.specs.Statements.{numberOf, jumpOf, statementFrom, basesAfter, loneValue, instructionNo, statementOf};
+ghost use Rattle.statements.specs.Statements.{numberOf, jumpOf, statementFrom, basesAfter, loneValue};
 
 // A statement that makes bytes: its operation, its Q and its operands; a jump's Q and byte. None: it makes none.
 pub enum Statement {
@@ -104,35 +97,4 @@ pub fn lone_value(x: Operands) -> Value
         Operands::Addresses(_, _, _) => Value::Absolute(Absolute(0)),
         Operands::None => Value::Absolute(Absolute(0)),
     }
-}
-
-// The lowest of refusals 18 to 23 of a card whose operand has a shape.
-pub fn instruction_no(
-    op: Operation,
-    shape: Shape,
-    o: &[u8],
-    table: &[u8],
-    count: usize,
-    here: u32,
-    bases: Bases,
-) -> u8
-    requires { ⌜ (16 * count ≤ length (now table)) × (ascending (namesIn count (now table)) ≡ true) ⌝ }
-    ensures { λ r. ⌜ r ≡ instructionNo op shape (now (o .entry)) (find (namesIn count (now (table .entry)))) here bases ⌝ }
-{
-    number_of(op, operands_of(shape, o, table, count, here), here, bases)
-}
-
-pub fn statement_of(
-    op: Operation,
-    shape: Shape,
-    o: &[u8],
-    table: &[u8],
-    count: usize,
-    here: u32,
-    bases: Bases,
-) -> Statement
-    requires { ⌜ (16 * count ≤ length (now table)) × (ascending (namesIn count (now table)) ≡ true) ⌝ }
-    ensures { λ r. ⌜ r ≡ statementOf op shape (now (o .entry)) (find (namesIn count (now (table .entry)))) here bases ⌝ }
-{
-    statement_from(op, operands_of(shape, o, table, count, here), here, bases)
 }
