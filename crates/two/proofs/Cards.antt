@@ -1,7 +1,7 @@
 -- What a card makes is what pass two says of it; and it fits, where the card is sound.
-use Prim.Native.Nat.{ℕ, _+_, _-_, _*_, _≤_}
-use mathlib.Core.List.{List, [], _∷_}
-use mathlib.Core.Path.{_≡_, refl, sym, ap, _∙_}
+use Prim.Native.Nat.{ℕ, _+_, _-_, _≤_}
+use mathlib.Core.List.{List, _∷_}
+use mathlib.Core.Path.{_≡_, refl, sym, ap}
 use mathlib.Core.Bool.{Bool, true, false}
 use native.Mathlib.Omega.{arith}
 use lib.ListN.{length}
@@ -53,7 +53,6 @@ use Rattle.passes.specs.One.{dataNo}
 use Rattle.passes.specs.Sound.{soundLine, soundReading}
 use Rattle.passes.specs.Two.{constantPieces, shapePieces, linePieces, readingPieces, cardPieces, readingTwoStep, stepTwo, roleEntry, readingEntry, entryFrom}
 use Rattle.passes.proofs.Counter.{counter-most}
-use Rattle.two.specs.declared.making.Text.{Text}
 use Rattle.two.specs.Steps.{textBy, textFrom, textPieces, entryOr, soughtBy, readingMade, cardMade, TextFits, MadeFits}
 
 -- WHAT IT IS

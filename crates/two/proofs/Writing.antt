@@ -1,11 +1,10 @@
 -- Records and the book in bytes: how long they are, and one laid after another.
 use Prim.Native.Nat.{ℕ, suc, _+_, _-_, _*_, _/_, _%_, _≤_, _<_}
-use mathlib.Core.List.{List, [], _∷_, _++_, append-assoc}
+use mathlib.Core.List.{List, [], _∷_, _++_}
 use mathlib.Core.Path.{_≡_, refl, sym, ap, _∙_}
 use native.Mathlib.Omega.{arith}
 use lib.ListN.{length, set, length-append}
 use lib.Seq.{sets, set-comm}
-use lib.Dec.{eqb}
 use borrow.Author.Tests.{eq-eqb, ne-eqb}
 use Rattle.values.specs.Words.{twoBytes, fourBytes, part}
 use Rattle.values.proofs.Laws.{sets-append}
@@ -117,13 +116,13 @@ records-none look k c = refl
 -- THE BOOK
 
 -- stores apart from each other in either order
-set-sets : (vs m : List ℕ) (i j u : ℕ) → i < j → set (sets m j vs) i u ≡ sets (set m i u) j vs
-set-sets [] m i j u h = refl
-set-sets (v ∷ vs) m i j u h = set-sets vs (set m j v) i (suc j) u (omega arith) ∙ ap (λ l. sets l (suc j) vs) (set-comm m j i v u (λ e. omega arith))
+set-apart : (vs m : List ℕ) (i j u : ℕ) → i < j → set (sets m j vs) i u ≡ sets (set m i u) j vs
+set-apart [] m i j u h = refl
+set-apart (v ∷ vs) m i j u h = set-apart vs (set m j v) i (suc j) u (omega arith) ∙ ap (λ l. sets l (suc j) vs) (set-comm m j i v u (λ e. omega arith))
 
-sets-sets : (us vs m : List ℕ) (i j : ℕ) → i + length us ≤ j → sets (sets m j vs) i us ≡ sets (sets m i us) j vs
-sets-sets [] vs m i j h = refl
-sets-sets (u ∷ us) vs m i j h = ap (λ l. sets l (suc i) us) (set-sets vs m i j u (omega arith)) ∙ sets-sets us vs (set m i u) (suc i) j (omega arith)
+sets-apart : (us vs m : List ℕ) (i j : ℕ) → i + length us ≤ j → sets (sets m j vs) i us ≡ sets (sets m i us) j vs
+sets-apart [] vs m i j h = refl
+sets-apart (u ∷ us) vs m i j h = ap (λ l. sets l (suc i) us) (set-apart vs m i j u (omega arith)) ∙ sets-apart us vs (set m i u) (suc i) j (omega arith)
 
 header-length : (n : ℕ) (e : BookEntry) → length (fourBytes n ++ (1 ∷ entryBytes e)) ≡ 8
 header-length n Absent = refl
@@ -156,5 +155,5 @@ book-laid look ss m p q size e a b c d =
     let l = header-length (4 + length rs) (entryFrom look outset ss) in
     let k : 8 ≡ 0 + length h = omega arith in
     d ∙ ap (λ x. sets x 0 (fourBytes (size - 4) ++ (1 ∷ entryBytes e))) a ∙ ap (λ i. sets (sets m 8 rs) 0 (fourBytes i ++ (1 ∷ entryBytes e))) n
-    ∙ ap (λ x. sets (sets m 8 rs) 0 (fourBytes (4 + length rs) ++ (1 ∷ entryBytes x))) c ∙ sets-sets h rs m 0 8 (omega arith) ∙ ap (λ i. sets (sets m 0 h) i rs) k
+    ∙ ap (λ x. sets (sets m 8 rs) 0 (fourBytes (4 + length rs) ++ (1 ∷ entryBytes x))) c ∙ sets-apart h rs m 0 8 (omega arith) ∙ ap (λ i. sets (sets m 0 h) i rs) k
     ∙ sym (sets-append m 0 h rs) ∙ ap (sets m 0) (sym (book-is look ss))

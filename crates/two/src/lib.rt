@@ -2,7 +2,6 @@
 pub mod making;
 pub mod records;
 
-use book::Entry;
 use cards::source::card_at;
 use cards::source::columns_of;
 use lines::Line;
@@ -155,18 +154,18 @@ pub fn write_book(width: usize, source: &[u8], table: &[u8], count: usize, out: 
     let mut entry = Sought::Open;
     let mut left = source.len() / width;
     let mut at = 0;
-    let mut k: u16 = 1;
+    let mut number: u16 = 1;
     let mut to = 8;
     while 0 < left {
         let card = card_at(source, at, columns);
         let made = make_card(c, card, table, count);
         let found = made.entry;
-        to = put_made(made, card, k, c.counter, out, to);
+        to = put_made(made, card, number, c.counter, out, to);
         entry = first_of(entry, found);
         c = made.course;
         left -= 1;
         at += width;
-        k += 1;
+        number += 1;
     }
     put_header(to, entry_in(entry), out);
 }

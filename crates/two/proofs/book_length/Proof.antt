@@ -1,34 +1,24 @@
+-- `book_length` meets its contract. The invariant: the whole length is the sum so far and the records left.
 use native.Mathlib.Omega.{arith}
 use borrow.Author.Needs.{needs}
-use lib.ListN.{length, length-set}
+use lib.ListN.{length}
 use mathlib.Core.Path.{_≡_, sym, ap, _∙_}
 use Prim.Native.Nat.{ℕ, _+_, _-_, _*_, _≤_}
-use Rattle.values.specs.Words.{twoBytes, part}
+use Rattle.values.specs.Words.{part}
 use mathlib.Core.Bool.{true}
 use Rattle.cards.proofs.Whole.{source-whole, card-inside, cards-all}
 use Rattle.cards.specs.Source.{columnsOf, cardsFrom, cardsOf}
-use Rattle.passes.specs.Sound.{sound}
-use Rattle.passes.specs.declared.Course.{Course}
+use Rattle.passes.specs.Sound.{sound, soundReading}
 use Rattle.names.specs.Names.{find}
 use Rattle.names.specs.Table.{namesIn}
-use Rattle.book.specs.Writing.{recordsBytes, bookBytes}
+use Rattle.book.specs.Writing.{recordsBytes}
 use Rattle.passes.specs.Two.{outset, recordsFrom}
 use Rattle.two.proofs.Writing.{text-short, text-half, book-long}
 use Rattle.two.proofs.Loops.{sound-on, card-fits, course-most, length-on, records-done}
 use Rattle.two.specs.Steps.{MadeFits, cardMade, textLength, textFields, recordLength}
 use Rattle.lines.specs.Lines.{readingOf}
-use Rattle.passes.specs.Sound.{soundReading}
 use Rattle.two.proofs.book_length.Statement.{statement}
 use Rattle.two.proofs.book_length.Tie as tie
-use Rattle.two.proofs.book_length.Reads as reads
-use Rattle.two.proofs.book_length.Lts as lts
-use Rattle.cards.proofs.source.card_at.Reads as card-at-reads
-use Rattle.cards.proofs.source.columns_of.Reads as columns-of-reads
-use Rattle.two.proofs.first_course.Reads as first-course-reads
-use Rattle.two.proofs.making.make_card.Reads as make-card-reads
-use Rattle.two.proofs.records.record_length.Reads as record-length-reads
-use Rattle.two.proofs.records.text_count.Reads as text-count-reads
-use Rattle.two.proofs.records.text_length.Reads as text-length-reads
 
 abbrev Inv-loop : tie.InvT-loop
 Inv-loop width source table count columns c₀ left₀ at₀ sum₀ c left at sum =
@@ -38,30 +28,24 @@ Inv-loop width source table count columns c₀ left₀ at₀ sum₀ c left at su
 abbrev μ-loop : tie.MeasureT-loop
 μ-loop width source table count columns c₀ left₀ at₀ sum₀ c left at sum = left
 
--- src/lib.rt:129:30
 cast-columns-of : tie.Need-cast-columns-of Inv-loop μ-loop
 cast-columns-of c = let w = source-whole (c .before .before .args .width) (length (c .before .before .args .source .now)) (c .before .before .pre .0 .0) in let m = w .most in omega arith
 
--- src/lib.rt:129:9
 columns-of-requires : tie.Need-columns-of-requires Inv-loop μ-loop
 columns-of-requires c κs = search needs
 
--- src/lib.rt:130:9
 first-course-requires : tie.Need-first-course-requires Inv-loop μ-loop
 first-course-requires c κs = search needs
 
--- src/lib.rt:131:20
 div-left : tie.Need-div-left Inv-loop μ-loop
 div-left c = let w = source-whole (c .before .before .before .before .args .width) (length (c .before .before .before .before .args .source .now)) (c .before .before .before .before .pre .0 .0) in let m = w .some in omega arith
 
--- src/lib.rt:134:5
 loop-holds : tie.Need-loop-holds Inv-loop μ-loop
 loop-holds c =
     let a = c .before .before .before .before .args in let look = find (namesIn (a .count) (a .table .now)) in let w = source-whole (c .before .before .before .before .args .width) (length (c .before .before .before .before .args .source .now)) (c .before .before .before .before .pre .0 .0) in
     let all = cards-all (a .width) (a .source .now) in let n = w .cards in let few = w .few in
     rw (c .first-course .ensures) (omega arith, omega arith, sym (ap sound all) ∙ c .before .before .before .before .pre .0 .1, omega arith, (1, ap (λ ss. 8 + length (recordsBytes (recordsFrom look 1 outset ss))) all))
 
--- src/lib.rt:135:13
 card-at-requires : tie.Need-card-at-requires Inv-loop μ-loop
 card-at-requires c κs = let w = card-inside (c .before .before .before .before .before .before .args .width) (length (c .before .before .before .before .before .before .args .source .now)) (c .before .loop .at) (c .before .loop .left) (c .before .before .before .before .before .before .pre .0 .0) (c .before .loop .inv .0) (c .loop-test .taken) in let m = w .0 in omega arith
 
@@ -72,7 +56,6 @@ card c = c .card-at .ensures ∙ ap (part (c .before .before .before .before .be
 good : (c : tie.After-card-at Inv-loop μ-loop) → soundReading (readingOf (c .card-at .result .now)) ≡ true
 good c = sound-on _ _ _ _ _ (card c) (c .before .loop-test .taken) (c .before .before .loop .inv .2) .0
 
--- src/lib.rt:136:13
 make-card-requires : tie.Need-make-card-requires Inv-loop μ-loop
 make-card-requires c κs = ((good c, omega arith), c .before .before .before .before .before .before .before .pre .1)
 
@@ -83,37 +66,29 @@ made c = c .make-card .ensures
 fits : (c : tie.After-make-card Inv-loop μ-loop) → MadeFits (c .make-card .result) (c .before .card-at .result .now)
 fits c = card-fits (c .before .before .before .before .before .before .before .before .args .width) (c .before .before .before .before .before .before .before .before .args .source .now) (c .before .before .before .loop .at) (c .before .before .before .loop .left) _ (card (c .before)) (c .before .before .loop-test .taken) _ 0 _ _ (made c) (good (c .before))
 
--- src/lib.rt:138:30
 text-length-requires : tie.Need-text-length-requires Inv-loop μ-loop
 text-length-requires c κs = search needs
 
--- src/lib.rt:138:49
 text-count-requires : tie.Need-text-count-requires Inv-loop μ-loop
 text-count-requires c κs = search needs
 
--- src/lib.rt:138:16
 record-length-requires : tie.Need-record-length-requires Inv-loop μ-loop
 record-length-requires c κs =
     let x = c .before .before .make-card .result in let s = c .before .before .before .card-at .result .now in let f = fits (c .before .before) .text in let o = part s (x .from) (x .end - x .from) in
     let short = text-short (x .text) o f in let half = text-half (x .text) o f in (omega arith, omega arith)
 
--- src/lib.rt:138:9
 add-sum : tie.Need-add-sum Inv-loop μ-loop
 add-sum c = omega arith
 
--- src/lib.rt:140:9
 sub-left : tie.Need-sub-left Inv-loop μ-loop
 sub-left c = omega arith
 
--- src/lib.rt:141:9
 add-at : tie.Need-add-at Inv-loop μ-loop
 add-at c = let w = card-inside (c .before .before .before .before .before .before .before .before .before .before .before .before .args .width) (length (c .before .before .before .before .before .before .before .before .before .before .before .before .args .source .now)) (c .before .before .before .before .before .before .before .loop .at) (c .before .before .before .before .before .before .before .loop .left) (c .before .before .before .before .before .before .before .before .before .before .before .before .pre .0 .0) (c .before .before .before .before .before .before .before .loop .inv .0) (c .before .before .before .before .before .before .loop-test .taken) in let m = w .1 in omega arith
 
--- src/lib.rt:134:5
 loop-less : tie.Need-loop-less Inv-loop μ-loop
 loop-less c = omega arith
 
--- src/lib.rt:134:5
 loop-again : tie.Need-loop-again Inv-loop μ-loop
 loop-again c =
     let a = c .before .before .before .before .before .before .before .before .before .before .before .before .args in let look = find (namesIn (a .count) (a .table .now)) in
@@ -125,7 +100,6 @@ loop-again c =
     let more = length-on (a .width) (a .source .now) (l .at) (l .left) _ is taken look (l .inv .4 .0) (l .c) x e ok in let so-far = l .inv .4 .1 in
     let w = card-inside (c .before .before .before .before .before .before .before .before .before .before .before .before .args .width) (length (c .before .before .before .before .before .before .before .before .before .before .before .before .args .source .now)) (c .before .before .before .before .before .before .before .loop .at) (c .before .before .before .before .before .before .before .loop .left) (c .before .before .before .before .before .before .before .before .before .before .before .before .pre .0 .0) (c .before .before .before .before .before .before .before .loop .inv .0) (c .before .before .before .before .before .before .loop-test .taken) in (w .1, omega arith, sound-on _ _ _ _ _ is taken (l .inv .2) .1, omega arith, (l .inv .4 .0 + 1, omega arith))
 
--- src/lib.rt:124:1
 returns : tie.Need-returns Inv-loop μ-loop
 returns c =
     let a = c .before .before .before .before .before .before .args in let look = find (namesIn (a .count) (a .table .now)) in

@@ -1,3 +1,4 @@
+-- `check_card` meets its contract: what was read is the card's reading.
 use native.Mathlib.Omega.{arith}
 use mathlib.Core.Path.{sym, _∙_, ap}
 use Rattle.two.proofs.Cards.{line-sound}
@@ -6,45 +7,33 @@ use Rattle.passes.specs.Sound.{soundReading}
 use borrow.Author.Needs.{needs}
 use Rattle.two.proofs.check_card.Statement.{statement}
 use Rattle.two.proofs.check_card.Tie as tie
-use Rattle.two.proofs.check_card.Reads as reads
-use Rattle.two.proofs.check_card.Lts as lts
-use Rattle.lines.proofs.read_line.Reads as read-line-reads
-use Rattle.two.proofs.check_line.Reads as check-line-reads
 
--- src/lib.rt:84:11
 read-line-requires : tie.Need-read-line-requires
 read-line-requires c κs = search needs
 
--- src/lib.rt:85:29
 enum-told : tie.Need-enum-told
 enum-told c = search needs
 
--- src/lib.rt:89:29
 enum-told-2 : tie.Need-enum-told-2
 enum-told-2 c = search needs
 
--- src/lib.rt:93:28
 enum-known-l : tie.Need-enum-known-l
 enum-known-l c = search needs
 
--- src/lib.rt:93:34
 check-line-requires : tie.Need-check-line-requires
 check-line-requires c κs =
     let p = c .before .before .before .before .before .before .pre in let e = sym (c .before .before .before .read-line .ensures) ∙ c .before .l .given .1 in
     let w = line-sound (c .before .l .given .0 .0) (sym (ap soundReading e) ∙ p .0 .0) .1 in
     ((e, omega arith), p .1)
 
--- src/lib.rt:79:1
 returns : tie.Need-returns
 unfolding twoNo stepTwo
 returns c = rw (sym (c .before .before .read-line .ensures), c .enum-told .given .1)
 
--- src/lib.rt:79:1
 returns-2 : tie.Need-returns-2
 unfolding twoNo stepTwo
 returns-2 c = rw (sym (c .before .before .read-line .ensures), c .enum-told2 .given .1)
 
--- src/lib.rt:79:1
 returns-3 : tie.Need-returns-3
 unfolding twoNo stepTwo
 returns-3 c = rw (sym (c .before .before .before .before .read-line .ensures), c .before .before .l .given .1) (c .check-line .ensures)

@@ -1,27 +1,19 @@
+-- `check_line` meets its contract: its operand lies inside the card.
 use Rattle.passes.specs.Cards.{counterAfter}
 use Rattle.lines.proofs.Laws.{line-within}
 use borrow.Author.Needs.{needs}
 use Rattle.two.proofs.check_line.Statement.{statement}
 use Rattle.two.proofs.check_line.Tie as tie
-use Rattle.two.proofs.check_line.Reads as reads
-use Rattle.two.proofs.check_line.Lts as lts
-use Rattle.passes.proofs.operands_at.Reads as operands-at-reads
-use Rattle.statements.proofs.number_of.Reads as number-of-reads
-use Rattle.two.proofs.making.course_after.Reads as course-after-reads
 
--- src/lib.rt:70:9
 operands-at-requires : tie.Need-operands-at-requires
 operands-at-requires c κs = let w = line-within (c .before .before .before .args .card .now) (c .before .before .before .args .l) (c .before .before .before .pre .0 .0) in ((w .operand, w .end), c .before .before .before .pre .1)
 
--- src/lib.rt:71:9
 number-of-requires : tie.Need-number-of-requires
 number-of-requires c κs = search needs
 
--- src/lib.rt:72:9
 course-after-requires : tie.Need-course-after-requires
 course-after-requires c κs = search needs
 
--- src/lib.rt:62:1
 returns : tie.Need-returns
 unfolding counterAfter
 returns c = rw (c .course-after .ensures, c .before .number-of .ensures, c .before .before .operands-at .ensures)

@@ -1,9 +1,10 @@
+-- `check_two` meets its contract. The invariant: pass two over all cards is pass two over those left, from where it stands now.
 use native.Mathlib.Omega.{arith}
 use borrow.Author.Needs.{needs}
-use lib.ListN.{length, length-set}
+use lib.ListN.{length}
 use mathlib.Core.Path.{_≡_, sym, ap, _∙_}
 use Prim.Native.Nat.{_+_, _-_, _*_, _≤_}
-use Rattle.values.specs.Words.{twoBytes, part}
+use Rattle.values.specs.Words.{part}
 use mathlib.Core.Bool.{true}
 use Rattle.cards.proofs.Whole.{source-whole, card-inside, cards-all}
 use Rattle.cards.specs.Source.{columnsOf, cardsFrom, cardsOf}
@@ -19,12 +20,6 @@ use Rattle.two.proofs.Cards.{step-most}
 use Rattle.two.proofs.Loops.{sound-on, check-on, check-bad, check-done}
 use Rattle.two.proofs.check_two.Statement.{statement}
 use Rattle.two.proofs.check_two.Tie as tie
-use Rattle.two.proofs.check_two.Reads as reads
-use Rattle.two.proofs.check_two.Lts as lts
-use Rattle.cards.proofs.source.card_at.Reads as card-at-reads
-use Rattle.cards.proofs.source.columns_of.Reads as columns-of-reads
-use Rattle.two.proofs.check_card.Reads as check-card-reads
-use Rattle.two.proofs.first_course.Reads as first-course-reads
 
 abbrev Inv-loop : tie.InvT-loop
 Inv-loop width source table count columns c₀ left₀ at₀ k₀ c left at k =
@@ -34,29 +29,23 @@ Inv-loop width source table count columns c₀ left₀ at₀ k₀ c left at k =
 abbrev μ-loop : tie.MeasureT-loop
 μ-loop width source table count columns c₀ left₀ at₀ k₀ c left at k = left
 
--- src/lib.rt:103:30
 cast-columns-of : tie.Need-cast-columns-of Inv-loop μ-loop
 cast-columns-of c = let w = source-whole (c .before .before .args .width) (length (c .before .before .args .source .now)) (c .before .before .pre .0 .0) in let m = w .most in omega arith
 
--- src/lib.rt:103:9
 columns-of-requires : tie.Need-columns-of-requires Inv-loop μ-loop
 columns-of-requires c κs = search needs
 
--- src/lib.rt:104:9
 first-course-requires : tie.Need-first-course-requires Inv-loop μ-loop
 first-course-requires c κs = search needs
 
--- src/lib.rt:105:20
 div-left : tie.Need-div-left Inv-loop μ-loop
 div-left c = let w = source-whole (c .before .before .before .before .args .width) (length (c .before .before .before .before .args .source .now)) (c .before .before .before .before .pre .0 .0) in let m = w .some in omega arith
 
--- src/lib.rt:108:5
 loop-holds : tie.Need-loop-holds Inv-loop μ-loop
 loop-holds c = let w = source-whole (c .before .before .before .before .args .width) (length (c .before .before .before .before .args .source .now)) (c .before .before .before .before .pre .0 .0) in
     let all = cards-all (c .before .before .before .before .args .width) (c .before .before .before .before .args .source .now) in let n = w .cards in let few = w .few in
     rw (c .first-course .ensures) (omega arith, omega arith, omega arith, sym (ap sound all) ∙ c .before .before .before .before .pre .0 .1, ap (checkTwo _ 1 outset) all)
 
--- src/lib.rt:109:13
 card-at-requires : tie.Need-card-at-requires Inv-loop μ-loop
 card-at-requires c κs = let w = card-inside (c .before .before .before .before .before .before .args .width) (length (c .before .before .before .before .before .before .args .source .now)) (c .before .loop .at) (c .before .loop .left) (c .before .before .before .before .before .before .pre .0 .0) (c .before .loop .inv .0) (c .loop-test .taken) in let m = w .0 in omega arith
 
@@ -64,7 +53,6 @@ card-at-requires c κs = let w = card-inside (c .before .before .before .before 
 card : (c : tie.After-card-at Inv-loop μ-loop) → c .card-at .result .now ≡ part (c .before .before .before .before .before .before .before .args .source .now) (c .before .before .loop .at) (columnsOf (c .before .before .before .before .before .before .before .args .width))
 card c = c .card-at .ensures ∙ ap (part (c .before .before .before .before .before .before .before .args .source .now) (c .before .before .loop .at)) (c .before .before .before .before .columns-of .ensures .0)
 
--- src/lib.rt:110:13
 check-card-requires : tie.Need-check-card-requires Inv-loop μ-loop
 check-card-requires c κs = let l = c .before .before .loop in ((sound-on _ _ _ _ _ (card c) (c .before .loop-test .taken) (l .inv .3) .0, omega arith), c .before .before .before .before .before .before .before .pre .1)
 
@@ -72,29 +60,23 @@ check-card-requires c κs = let l = c .before .before .loop in ((sound-on _ _ _ 
 turn : (c : tie.After-check-card Inv-loop μ-loop) → c .check-card .result ≡ cardTurn (find (namesIn (c .before .before .before .before .before .before .before .before .args .count) (c .before .before .before .before .before .before .before .before .args .table .now))) (c .before .before .before .loop .c) (c .before .card-at .result .now)
 turn c = c .check-card .ensures
 
--- src/lib.rt:113:13
 returns : tie.Need-returns Inv-loop μ-loop
 returns c =
     let l = c .before .before .before .before .loop in let n = ap (λ (t : Turn). t .number) (turn (c .before)) in
     sym (l .inv .4 ∙ check-bad _ _ _ _ _ (card (c .before .before)) (c .before .before .before .loop-test .taken) _ (l .k) (l .c) (λ z. c .if1 .taken (n ∙ z)) ∙ ap (λ i. Bad i (l .k)) (sym n))
 
--- src/lib.rt:116:9
 sub-left : tie.Need-sub-left Inv-loop μ-loop
 sub-left c = omega arith
 
--- src/lib.rt:117:9
 add-at : tie.Need-add-at Inv-loop μ-loop
 add-at c = let w = card-inside (c .before .before .before .before .before .before .before .before .before .before .args .width) (length (c .before .before .before .before .before .before .before .before .before .before .args .source .now)) (c .before .before .before .before .before .loop .at) (c .before .before .before .before .before .loop .left) (c .before .before .before .before .before .before .before .before .before .before .pre .0 .0) (c .before .before .before .before .before .loop .inv .0) (c .before .before .before .before .loop-test .taken) in let m = w .1 in omega arith
 
--- src/lib.rt:118:9
 add-k : tie.Need-add-k Inv-loop μ-loop
 add-k c = omega arith
 
--- src/lib.rt:108:5
 loop-less : tie.Need-loop-less Inv-loop μ-loop
 loop-less c = omega arith
 
--- src/lib.rt:108:5
 loop-again : tie.Need-loop-again Inv-loop μ-loop
 loop-again c =
     let a = c .before .before .before .before .before .before .before .before .before .before .args in let l = c .before .before .before .before .before .loop in let look = find (namesIn (a .count) (a .table .now)) in let e = turn (c .before .before) in
@@ -110,7 +92,6 @@ loop-again c =
           ∙ ap (λ x. checkTwo look (l .k + 1) x (cardsFrom (l .left - 1) (a .width) (a .source .now) (l .at + a .width))) (sym g),
     )
 
--- src/lib.rt:98:1
 returns-2 : tie.Need-returns-2 Inv-loop μ-loop
 returns-2 c = let l = c .before .loop in sym (l .inv .4 ∙ check-done _ _ _ _ (omega arith) _ (l .k) (l .c))
 

@@ -1,65 +1,48 @@
+-- `write_book` meets its contract. The invariant: laying all records is laying those left, from the place now; the entry is what END said, or is still to be found.
 use mathlib.Core.Path.{_≡_, refl, sym, ap, _∙_}
 use native.Mathlib.Omega.{arith}
 use borrow.Author.Needs.{needs}
-use lib.ListN.{length, length-set}
-use mathlib.Core.Path.{_≡_, sym, ap, _∙_}
-use Prim.Native.Nat.{ℕ, _+_, _-_, _*_, _≤_}
-use Rattle.values.specs.Words.{twoBytes, part}
+use lib.ListN.{length}
+use Prim.Native.Nat.{_+_, _-_, _*_, _≤_}
+use Rattle.values.specs.Words.{part}
 use mathlib.Core.Bool.{true}
 use Rattle.cards.proofs.Whole.{source-whole, card-inside, cards-all}
 use Rattle.cards.specs.Source.{columnsOf, cardsFrom, cardsOf}
-use Rattle.passes.specs.Sound.{sound}
-use Rattle.passes.specs.declared.Course.{Course}
+use Rattle.passes.specs.Sound.{sound, soundReading}
 use Rattle.names.specs.Names.{find}
 use Rattle.names.specs.Table.{namesIn}
-use Rattle.book.specs.Writing.{recordsBytes, bookBytes}
+use Rattle.book.specs.Writing.{recordsBytes}
 use Rattle.passes.specs.Two.{outset, recordsFrom, entryFrom}
 use lib.Seq.{sets}
 use Rattle.two.proofs.Writing.{book-long, book-laid}
 use Rattle.two.proofs.Loops.{sound-on, card-fits, course-most, length-on, laid-on, entry-on, records-done, entry-done}
 use Rattle.two.specs.Steps.{MadeFits, cardMade, textLength, textFields, recordLength, entryOr}
 use Rattle.lines.specs.Lines.{readingOf}
-use Rattle.passes.specs.Sound.{soundReading}
 use Rattle.two.proofs.write_book.Statement.{statement}
 use Rattle.two.proofs.write_book.Tie as tie
-use Rattle.two.proofs.write_book.Reads as reads
-use Rattle.two.proofs.write_book.Lts as lts
-use Rattle.cards.proofs.source.card_at.Reads as card-at-reads
-use Rattle.cards.proofs.source.columns_of.Reads as columns-of-reads
-use Rattle.two.proofs.first_course.Reads as first-course-reads
-use Rattle.two.proofs.making.entry_in.Reads as entry-in-reads
-use Rattle.two.proofs.making.first_of.Reads as first-of-reads
-use Rattle.two.proofs.making.make_card.Reads as make-card-reads
-use Rattle.two.proofs.records.put_header.Reads as put-header-reads
-use Rattle.two.proofs.records.put_made.Reads as put-made-reads
 
 abbrev Inv-loop : tie.InvT-loop
-Inv-loop width source table count out₀ columns c₀ entry₀ left₀ at₀ k₀ to₀ out c entry left at k to =
-    (at + width * left ≡ length source) × (c .counter + 65536 * left ≤ 262144000) × (k + left ≤ 4001) × (sound (cardsFrom left width source at) ≡ true) × (to + 391 * left ≤ 1564008) × (length out ≡ length out₀)
-    × (8 + length (recordsBytes (recordsFrom (find (namesIn count table)) 1 outset (cardsOf width source))) ≡ to + length (recordsBytes (recordsFrom (find (namesIn count table)) k c (cardsFrom left width source at))))
-    × (sets out₀ 8 (recordsBytes (recordsFrom (find (namesIn count table)) 1 outset (cardsOf width source))) ≡ sets out to (recordsBytes (recordsFrom (find (namesIn count table)) k c (cardsFrom left width source at))))
+Inv-loop width source table count out₀ columns c₀ entry₀ left₀ at₀ number₀ to₀ out c entry left at number to =
+    (at + width * left ≡ length source) × (c .counter + 65536 * left ≤ 262144000) × (number + left ≤ 4001) × (sound (cardsFrom left width source at) ≡ true) × (to + 391 * left ≤ 1564008) × (length out ≡ length out₀)
+    × (8 + length (recordsBytes (recordsFrom (find (namesIn count table)) 1 outset (cardsOf width source))) ≡ to + length (recordsBytes (recordsFrom (find (namesIn count table)) number c (cardsFrom left width source at))))
+    × (sets out₀ 8 (recordsBytes (recordsFrom (find (namesIn count table)) 1 outset (cardsOf width source))) ≡ sets out to (recordsBytes (recordsFrom (find (namesIn count table)) number c (cardsFrom left width source at))))
     × (entryFrom (find (namesIn count table)) outset (cardsOf width source) ≡ entryOr entry (entryFrom (find (namesIn count table)) c (cardsFrom left width source at)))
 
 abbrev μ-loop : tie.MeasureT-loop
-μ-loop width source table count out₀ columns c₀ entry₀ left₀ at₀ k₀ to₀ out c entry left at k to = left
+μ-loop width source table count out₀ columns c₀ entry₀ left₀ at₀ number₀ to₀ out c entry left at number to = left
 
--- src/lib.rt:153:30
 cast-columns-of : tie.Need-cast-columns-of Inv-loop μ-loop
 cast-columns-of c = let w = source-whole (c .before .before .before .args .width) (length (c .before .before .before .args .source .now)) (c .before .before .before .pre .0 .0) in let m = w .most in omega arith
 
--- src/lib.rt:153:9
 columns-of-requires : tie.Need-columns-of-requires Inv-loop μ-loop
 columns-of-requires c κs = search needs
 
--- src/lib.rt:154:9
 first-course-requires : tie.Need-first-course-requires Inv-loop μ-loop
 first-course-requires c κs = search needs
 
--- src/lib.rt:156:20
 div-left : tie.Need-div-left Inv-loop μ-loop
 div-left c = let w = source-whole (c .before .before .before .before .before .args .width) (length (c .before .before .before .before .before .args .source .now)) (c .before .before .before .before .before .pre .0 .0) in let m = w .some in omega arith
 
--- src/lib.rt:160:5
 loop-holds : tie.Need-loop-holds Inv-loop μ-loop
 loop-holds c =
     let a = c .before .before .before .before .before .args in let look = find (namesIn (a .count) (a .table .now)) in let w = source-whole (c .before .before .before .before .before .args .width) (length (c .before .before .before .before .before .args .source .now)) (c .before .before .before .before .before .pre .0 .0) in
@@ -76,7 +59,6 @@ loop-holds c =
       ap (entryFrom look outset) all,
     )
 
--- src/lib.rt:161:13
 card-at-requires : tie.Need-card-at-requires Inv-loop μ-loop
 card-at-requires c κs = let w = card-inside (c .before .before .before .before .before .before .before .args .width) (length (c .before .before .before .before .before .before .before .args .source .now)) (c .before .loop .at) (c .before .loop .left) (c .before .before .before .before .before .before .before .pre .0 .0) (c .before .loop .inv .0) (c .loop-test .taken) in let m = w .0 in omega arith
 
@@ -87,7 +69,6 @@ card c = c .card-at .ensures ∙ ap (part (c .before .before .before .before .be
 good : (c : tie.After-card-at Inv-loop μ-loop) → soundReading (readingOf (c .card-at .result .now)) ≡ true
 good c = sound-on _ _ _ _ _ (card c) (c .before .loop-test .taken) (c .before .before .loop .inv .3) .0
 
--- src/lib.rt:162:13
 make-card-requires : tie.Need-make-card-requires Inv-loop μ-loop
 make-card-requires c κs = ((good c, omega arith), c .before .before .before .before .before .before .before .before .pre .1 .0)
 
@@ -100,38 +81,31 @@ fits c = card-fits (c .before .before .before .before .before .before .before .b
 
 -- how long its record is with those behind it
 behind : (c : tie.After-make-card Inv-loop μ-loop) → let a = c .before .before .before .before .before .before .before .before .before .args in let l = c .before .before .before .loop in let look = find (namesIn (a .count) (a .table .now)) in let x = c .make-card .result in
-    length (recordsBytes (recordsFrom look (l .k) (l .c) (cardsFrom (l .left) (a .width) (a .source .now) (l .at))))
-    ≡ recordLength (textLength (x .text)) (length (textFields (x .text))) + length (recordsBytes (recordsFrom look (l .k + 1) (x .course) (cardsFrom (l .left - 1) (a .width) (a .source .now) (l .at + a .width))))
-behind c = let a = c .before .before .before .before .before .before .before .before .before .args in let l = c .before .before .before .loop in length-on (a .width) (a .source .now) (l .at) (l .left) _ (card (c .before)) (c .before .before .loop-test .taken) _ (l .k) (l .c) _ (made c) (good (c .before))
+    length (recordsBytes (recordsFrom look (l .number) (l .c) (cardsFrom (l .left) (a .width) (a .source .now) (l .at))))
+    ≡ recordLength (textLength (x .text)) (length (textFields (x .text))) + length (recordsBytes (recordsFrom look (l .number + 1) (x .course) (cardsFrom (l .left - 1) (a .width) (a .source .now) (l .at + a .width))))
+behind c = let a = c .before .before .before .before .before .before .before .before .before .args in let l = c .before .before .before .loop in length-on (a .width) (a .source .now) (l .at) (l .left) _ (card (c .before)) (c .before .before .loop-test .taken) _ (l .number) (l .c) _ (made c) (good (c .before))
 
--- src/lib.rt:164:9
 put-made-requires : tie.Need-put-made-requires Inv-loop μ-loop
 put-made-requires c κs =
     let a = c .before .before .before .before .before .before .before .before .before .before .args in let look = find (namesIn (a .count) (a .table .now)) in
     let l = c .before .before .before .before .loop in let more = behind (c .before) in let so-far = l .inv .6 in let same = l .inv .5 in let room = c .before .before .before .before .before .before .before .before .before .before .pre .1 .1 in
     (fits (c .before), omega (arith, book-long look (cardsOf (a .width) (a .source .now))))
 
--- src/lib.rt:165:9
 first-of-requires : tie.Need-first-of-requires Inv-loop μ-loop
 first-of-requires c κs = search needs
 
--- src/lib.rt:167:9
 sub-left : tie.Need-sub-left Inv-loop μ-loop
 sub-left c = omega arith
 
--- src/lib.rt:168:9
 add-at : tie.Need-add-at Inv-loop μ-loop
 add-at c = let w = card-inside (c .before .before .before .before .before .before .before .before .before .before .before .before .before .before .before .args .width) (length (c .before .before .before .before .before .before .before .before .before .before .before .before .before .before .before .args .source .now)) (c .before .before .before .before .before .before .before .before .before .loop .at) (c .before .before .before .before .before .before .before .before .before .loop .left) (c .before .before .before .before .before .before .before .before .before .before .before .before .before .before .before .pre .0 .0) (c .before .before .before .before .before .before .before .before .before .loop .inv .0) (c .before .before .before .before .before .before .before .before .loop-test .taken) in let m = w .1 in omega (arith, c .before .before .before .before .before .before .before .before .before .before .before .before .before .before .before .good)
 
--- src/lib.rt:169:9
-add-k : tie.Need-add-k Inv-loop μ-loop
-add-k c = omega arith
+add-number : tie.Need-add-number Inv-loop μ-loop
+add-number c = omega arith
 
--- src/lib.rt:160:5
 loop-less : tie.Need-loop-less Inv-loop μ-loop
 loop-less c = omega arith
 
--- src/lib.rt:160:5
 loop-again : tie.Need-loop-again Inv-loop μ-loop
 loop-again c =
     let a = c .before .before .before .before .before .before .before .before .before .before .before .before .before .before .before .args in let look = find (namesIn (a .count) (a .table .now)) in
@@ -146,35 +120,31 @@ loop-again c =
       omega arith,
       p .kept .1 .1 .1 .1 .0 ∙ l .inv .5,
       omega arith,
-      l .inv .7 ∙ laid-on (a .width) (a .source .now) (l .at) (l .left) _ is taken look (l .k) (l .c) x e ok (l .out) (p .last .1 .1 .1 .1 .0) (l .to) (p .result) (p .ensures .1) there,
-      l .inv .8 ∙ entry-on (a .width) (a .source .now) (l .at) (l .left) _ is taken look (l .k) (l .c) x e ok (l .entry) ∙ ap (λ i. entryOr i (entryFrom look (x .course) (cardsFrom (l .left - 1) (a .width) (a .source .now) (l .at + a .width)))) (sym (c .before .first-of .ensures)),
+      l .inv .7 ∙ laid-on (a .width) (a .source .now) (l .at) (l .left) _ is taken look (l .number) (l .c) x e ok (l .out) (p .last .1 .1 .1 .1 .0) (l .to) (p .result) (p .ensures .1) there,
+      l .inv .8 ∙ entry-on (a .width) (a .source .now) (l .at) (l .left) _ is taken look (l .number) (l .c) x e ok (l .entry) ∙ ap (λ i. entryOr i (entryFrom look (x .course) (cardsFrom (l .left - 1) (a .width) (a .source .now) (l .at + a .width)))) (sym (c .before .first-of .ensures)),
     )
 
--- src/lib.rt:171:20
 entry-in-requires : tie.Need-entry-in-requires Inv-loop μ-loop
 entry-in-requires c κs = search needs
 
--- src/lib.rt:171:5
 put-header-requires : tie.Need-put-header-requires Inv-loop μ-loop
 put-header-requires c κs =
     let a = c .before .before .before .before .before .before .before .before .before .args in let look = find (namesIn (a .count) (a .table .now)) in
-    let l = c .before .before .before .loop in let none = ap length (records-done (a .width) (a .source .now) (l .at) (l .left) (omega arith) look (l .k) (l .c)) in
+    let l = c .before .before .before .loop in let none = ap length (records-done (a .width) (a .source .now) (l .at) (l .left) (omega arith) look (l .number) (l .c)) in
     let so-far = l .inv .6 in let short = l .inv .4 in let same = l .inv .5 in let room = c .before .before .before .before .before .before .before .before .before .pre .1 .1 in
     (omega arith, omega arith, omega (arith, book-long look (cardsOf (a .width) (a .source .now))))
 
--- src/lib.rt:147:1
 same-length : tie.Need-same-length Inv-loop μ-loop
 same-length c = c .before .before .put-header .kept .1 .1 .0 ∙ c .before .before .before .before .before .before .loop .inv .5
 
--- src/lib.rt:147:1
 returns : tie.Need-returns Inv-loop μ-loop
 returns c =
     let a = c .before .before .before .before .before .before .before .before .before .before .before .before .args in let look = find (namesIn (a .count) (a .table .now)) in
-    let l = c .before .before .before .before .before .before .loop in let none = records-done (a .width) (a .source .now) (l .at) (l .left) (omega arith) look (l .k) (l .c) in
+    let l = c .before .before .before .before .before .before .loop in let none = records-done (a .width) (a .source .now) (l .at) (l .left) (omega arith) look (l .number) (l .c) in
     let n = ap length none in let so-far = l .inv .6 in
     book-laid look (cardsOf (a .width) (a .source .now)) (a .out .now) (l .out) _ (l .to) (c .before .before .before .before .entry-in .result)
     (sym (l .inv .7 ∙ ap (sets (l .out) (l .to)) none)) (omega arith)
-    (c .before .before .before .before .entry-in .ensures ∙ ap (entryOr (l .entry)) (sym (entry-done (a .width) (a .source .now) (l .at) (l .left) (omega arith) look (l .k) (l .c))) ∙ sym (l .inv .8)) (c .before .before .put-header .ensures)
+    (c .before .before .before .before .entry-in .ensures ∙ ap (entryOr (l .entry)) (sym (entry-done (a .width) (a .source .now) (l .at) (l .left) (omega arith) look (l .number) (l .c))) ∙ sym (l .inv .8)) (c .before .before .put-header .ensures)
 
 pub write-book-spec : {M : Type 1} → statement M
 write-book-spec =
@@ -193,7 +163,7 @@ write-book-spec =
     first-of-requires
     sub-left
     add-at
-    add-k
+    add-number
     loop-less
     loop-again
     entry-in-requires

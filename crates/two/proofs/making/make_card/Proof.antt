@@ -1,59 +1,45 @@
+-- `making::make_card` meets its contract: what was read is the card's reading.
 use native.Mathlib.Omega.{arith}
 use mathlib.Core.Path.{sym, _∙_, ap}
 use Rattle.two.proofs.Cards.{line-sound}
-use Rattle.two.specs.Steps.{cardMade, readingMade}
+use Rattle.two.specs.Steps.{cardMade}
 use Rattle.passes.specs.Sound.{soundReading}
 use borrow.Author.Needs.{needs}
 use Rattle.two.proofs.making.make_card.Statement.{statement}
 use Rattle.two.proofs.making.make_card.Tie as tie
-use Rattle.two.proofs.making.make_card.Reads as reads
-use Rattle.two.proofs.making.make_card.Lts as lts
-use Rattle.lines.proofs.read_line.Reads as read-line-reads
-use Rattle.two.proofs.making.make_line.Reads as make-line-reads
-use Rattle.two.proofs.making.make_none.Reads as make-none-reads
 
--- src/making.rt:183:11
 read-line-requires : tie.Need-read-line-requires
 read-line-requires c κs = search needs
 
--- src/making.rt:184:29
 enum-told : tie.Need-enum-told
 enum-told c = search needs
 
--- src/making.rt:184:29
 make-none-requires : tie.Need-make-none-requires
 make-none-requires c κs = search needs
 
--- src/making.rt:185:29
 enum-told-2 : tie.Need-enum-told-2
 enum-told-2 c = search needs
 
--- src/making.rt:185:29
 make-none-requires-2 : tie.Need-make-none-requires-2
 make-none-requires-2 c κs = search needs
 
--- src/making.rt:186:28
 enum-known-l : tie.Need-enum-known-l
 enum-known-l c = search needs
 
--- src/making.rt:186:34
 make-line-requires : tie.Need-make-line-requires
 make-line-requires c κs =
     let p = c .before .before .before .before .before .before .pre in let e = sym (c .before .before .before .read-line .ensures) ∙ c .before .l .given .1 in
     let w = line-sound (c .before .l .given .0 .0) (sym (ap soundReading e) ∙ p .0 .0) .1 in
     ((e, omega arith), p .1)
 
--- src/making.rt:178:1
 returns : tie.Need-returns
 unfolding cardMade
 returns c = rw (sym (c .before .before .before .read-line .ensures), c .before .enum-told .given .1) (c .make-none .ensures)
 
--- src/making.rt:178:1
 returns-2 : tie.Need-returns-2
 unfolding cardMade
 returns-2 c = rw (sym (c .before .before .before .read-line .ensures), c .before .enum-told2 .given .1) (c .make-none2 .ensures)
 
--- src/making.rt:178:1
 returns-3 : tie.Need-returns-3
 unfolding cardMade
 returns-3 c = rw (sym (c .before .before .before .before .read-line .ensures), c .before .before .l .given .1) (c .make-line .ensures)

@@ -1,51 +1,38 @@
+-- `making::sought_by` meets its contract, case by case.
 use borrow.Author.Needs.{needs}
 use Rattle.two.proofs.making.sought_by.Statement.{statement}
 use Rattle.two.proofs.making.sought_by.Tie as tie
-use Rattle.two.proofs.making.sought_by.Reads as reads
-use Rattle.two.proofs.making.sought_by.Lts as lts
-use Rattle.two.proofs.making.entry_by.Reads as entry-by-reads
 
--- src/making.rt:115:25
 enum-told : tie.Need-enum-told
 enum-told c = search needs
 
--- src/making.rt:116:26
 enum-told-2 : tie.Need-enum-told-2
 enum-told-2 c = search needs
 
--- src/making.rt:117:30
 enum-told-3 : tie.Need-enum-told-3
 enum-told-3 c = search needs
 
--- src/making.rt:118:37
 enum-told-4 : tie.Need-enum-told-4
 enum-told-4 c = search needs
 
--- src/making.rt:118:37
 entry-by-requires : tie.Need-entry-by-requires
 entry-by-requires c κs = search needs
 
--- src/making.rt:119:24
 enum-told-5 : tie.Need-enum-told-5
 enum-told-5 c = search needs
 
--- src/making.rt:111:1
 returns : tie.Need-returns
 returns c = search needs
 
--- src/making.rt:111:1
 returns-2 : tie.Need-returns-2
 returns-2 c = search needs
 
--- src/making.rt:111:1
 returns-3 : tie.Need-returns-3
 returns-3 c = search needs
 
--- src/making.rt:111:1
 returns-4 : tie.Need-returns-4
 returns-4 c = rw (c .before .enum-told4 .given .1, c .entry-by .ensures)
 
--- src/making.rt:111:1
 returns-5 : tie.Need-returns-5
 returns-5 c = search needs
 

@@ -1,38 +1,29 @@
+-- `making::text_by` meets its contract, case by case.
 use borrow.Author.Needs.{needs}
 use Rattle.two.proofs.making.text_by.Statement.{statement}
 use Rattle.two.proofs.making.text_by.Tie as tie
-use Rattle.two.proofs.making.text_by.Reads as reads
-use Rattle.two.proofs.making.text_by.Lts as lts
 
--- src/making.rt:74:33
 enum-told : tie.Need-enum-told
 enum-told c = search needs
 
--- src/making.rt:75:34
 enum-told-2 : tie.Need-enum-told-2
 enum-told-2 c = search needs
 
--- src/making.rt:76:30
 enum-told-3 : tie.Need-enum-told-3
 enum-told-3 c = search needs
 
--- src/making.rt:77:30
 enum-told-4 : tie.Need-enum-told-4
 enum-told-4 c = search needs
 
--- src/making.rt:70:1
 returns : tie.Need-returns
 returns c = rw (c .enum-told .given .1)
 
--- src/making.rt:70:1
 returns-2 : tie.Need-returns-2
 returns-2 c = rw (c .enum-told2 .given .1)
 
--- src/making.rt:70:1
 returns-3 : tie.Need-returns-3
 returns-3 c = rw (c .enum-told3 .given .1)
 
--- src/making.rt:70:1
 returns-4 : tie.Need-returns-4
 returns-4 c = rw (c .enum-told4 .given .1)
 

@@ -1,99 +1,74 @@
+-- `making::text_from` meets its contract, case by case.
 use borrow.Author.Needs.{needs}
 use Rattle.two.proofs.making.text_from.Statement.{statement}
 use Rattle.two.proofs.making.text_from.Tie as tie
-use Rattle.two.proofs.making.text_from.Reads as reads
-use Rattle.two.proofs.making.text_from.Lts as lts
-use Rattle.two.proofs.making.text_by.Reads as text-by-reads
 
--- src/making.rt:85:28
 enum-told : tie.Need-enum-told
 enum-told c = search needs
 
--- src/making.rt:86:27
 enum-told-2 : tie.Need-enum-told-2
 enum-told-2 c = search needs
 
--- src/making.rt:87:30
 enum-told-3 : tie.Need-enum-told-3
 enum-told-3 c = search needs
 
--- src/making.rt:88:30
 enum-told-4 : tie.Need-enum-told-4
 enum-told-4 c = search needs
 
--- src/making.rt:89:27
 enum-told-5 : tie.Need-enum-told-5
 enum-told-5 c = search needs
 
--- src/making.rt:90:26
 enum-told-6 : tie.Need-enum-told-6
 enum-told-6 c = search needs
 
--- src/making.rt:91:29
 enum-told-7 : tie.Need-enum-told-7
 enum-told-7 c = search needs
 
--- src/making.rt:92:29
 enum-told-8 : tie.Need-enum-told-8
 enum-told-8 c = search needs
 
--- src/making.rt:93:27
 enum-told-9 : tie.Need-enum-told-9
 enum-told-9 c = search needs
 
--- src/making.rt:94:25
 enum-known-shape : tie.Need-enum-known-shape
 enum-known-shape c = search needs
 
--- src/making.rt:96:13
 text-by-requires : tie.Need-text-by-requires
 text-by-requires c κs = search needs
 
--- src/making.rt:98:30
 enum-told-10 : tie.Need-enum-told-10
 enum-told-10 c = search needs
 
--- src/making.rt:81:1
 returns : tie.Need-returns
 returns c = rw (c .enum-told .given .1)
 
--- src/making.rt:81:1
 returns-2 : tie.Need-returns-2
 returns-2 c = rw (c .enum-told2 .given .1)
 
--- src/making.rt:81:1
 returns-3 : tie.Need-returns-3
 returns-3 c = rw (c .enum-told3 .given .1)
 
--- src/making.rt:81:1
 returns-4 : tie.Need-returns-4
 returns-4 c = rw (c .enum-told4 .given .1)
 
--- src/making.rt:81:1
 returns-5 : tie.Need-returns-5
 returns-5 c = rw (c .enum-told5 .given .1)
 
--- src/making.rt:81:1
 returns-6 : tie.Need-returns-6
 returns-6 c = rw (c .enum-told6 .given .1)
 
--- src/making.rt:81:1
 returns-7 : tie.Need-returns-7
 returns-7 c = rw (c .enum-told7 .given .1)
 
--- src/making.rt:81:1
 returns-8 : tie.Need-returns-8
 returns-8 c = rw (c .enum-told8 .given .1)
 
--- src/making.rt:81:1
 returns-9 : tie.Need-returns-9
 returns-9 c = rw (c .enum-told9 .given .1)
 
--- src/making.rt:81:1
 returns-10 : tie.Need-returns-10
 returns-10 c = rw (c .before .before .shape .given .1, c .text-by .ensures)
 
--- src/making.rt:81:1
 returns-11 : tie.Need-returns-11
 returns-11 c = rw (c .enum-told10 .given .1)
 

@@ -1,51 +1,39 @@
+-- `records::put_head` meets its contract: four writes one after the other.
 use Prim.Native.Nat.{_+_}
 use native.Mathlib.Omega.{arith}
 use Rattle.values.proofs.Laws.{then}
-use lib.Seq.{sets}
-use lib.ListN.{length, length-set}
+use lib.ListN.{length-set}
 use mathlib.Core.List.{_∷_, [], _++_}
-use Rattle.values.specs.Words.{twoBytes, part}
+use Rattle.values.specs.Words.{twoBytes}
 use mathlib.Core.Path.{refl, _∙_}
 use borrow.Author.Needs.{needs}
 use Rattle.two.proofs.records.put_head.Statement.{statement}
 use Rattle.two.proofs.records.put_head.Tie as tie
-use Rattle.two.proofs.records.put_head.Reads as reads
-use Rattle.two.proofs.records.put_head.Lts as lts
-use Rattle.values.proofs.words.put_word.Reads as put-word-reads
 
--- src/records.rt:59:5
 put-word-requires : tie.Need-put-word-requires
 put-word-requires c κs = search needs
 
--- src/records.rt:60:17
 add-put-word : tie.Need-add-put-word
 add-put-word c = search needs
 
--- src/records.rt:60:5
 put-word-requires-2 : tie.Need-put-word-requires-2
 put-word-requires-2 c κs = search needs
 
--- src/records.rt:61:17
 add-put-word-2 : tie.Need-add-put-word-2
 add-put-word-2 c = search needs
 
--- src/records.rt:61:5
 put-word-requires-3 : tie.Need-put-word-requires-3
 put-word-requires-3 c κs = search needs
 
--- src/records.rt:62:7
 add-m : tie.Need-add-m
 add-m c = search needs
 
--- src/records.rt:62:5
 slice-write-m : tie.Need-slice-write-m
 slice-write-m c = search needs
 
--- src/records.rt:55:1
 same-length : tie.Need-same-length
 same-length c = simp length-set (c .before .before .put-word3 .kept .0 ∙ c .before .before .before .before .before .before .put-word2 .kept .0 ∙ c .before .before .before .before .before .before .before .before .before .before .put-word .kept .0)
 
--- src/records.rt:55:1
 returns : tie.Need-returns
 returns c =
     let a = c .before .before .before .before .before .before .before .before .before .before .before .before .before .args in let r = c .before .before .before .before .before .before .before .before .before .before .put-word in let k = c .before .before .before .before .before .before .put-word2 in let p = c .before .before .put-word3 in

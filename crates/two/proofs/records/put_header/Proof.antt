@@ -1,52 +1,40 @@
+-- `records::put_header` meets its contract: four writes one after the other.
 use native.Mathlib.Omega.{arith}
 use Rattle.values.proofs.Laws.{then}
-use lib.ListN.{length, length-set}
+use lib.ListN.{length-set}
 use mathlib.Core.List.{_∷_, [], _++_}
-use Rattle.values.specs.Words.{twoBytes, part}
+use Rattle.values.specs.Words.{twoBytes}
 use mathlib.Core.Path.{refl, _∙_}
 use Prim.Native.Nat.{_-_, _/_, _%_}
 use Rattle.book.specs.Writing.{entryBytes}
 use borrow.Author.Needs.{needs}
 use Rattle.two.proofs.records.put_header.Statement.{statement}
 use Rattle.two.proofs.records.put_header.Tie as tie
-use Rattle.two.proofs.records.put_header.Reads as reads
-use Rattle.two.proofs.records.put_header.Lts as lts
-use Rattle.two.proofs.records.put_entry.Reads as put-entry-reads
-use Rattle.values.proofs.words.put_word.Reads as put-word-reads
 
--- src/records.rt:141:16
 sub-rest : tie.Need-sub-rest
 sub-rest c = search needs
 
--- src/records.rt:142:20
 cast-put-word : tie.Need-cast-put-word
 cast-put-word c = search needs
 
--- src/records.rt:142:5
 put-word-requires : tie.Need-put-word-requires
 put-word-requires c κs = search needs
 
--- src/records.rt:143:20
 cast-put-word-2 : tie.Need-cast-put-word-2
 cast-put-word-2 c = search needs
 
--- src/records.rt:143:5
 put-word-requires-2 : tie.Need-put-word-requires-2
 put-word-requires-2 c κs = search needs
 
--- src/records.rt:144:5
 slice-write-m : tie.Need-slice-write-m
 slice-write-m c = search needs
 
--- src/records.rt:145:5
 put-entry-requires : tie.Need-put-entry-requires
 put-entry-requires c κs = let x = c .before .before .before .put-word2 .kept .0 in let y = c .before .before .before .before .before .before .before .put-word .kept .0 in simp length-set (omega arith)
 
--- src/records.rt:137:1
 same-length : tie.Need-same-length
 same-length c = c .before .before .put-entry .kept .1 .0 ∙ simp length-set (c .before .before .before .before .before .before .put-word2 .kept .0 ∙ c .before .before .before .before .before .before .before .before .before .before .put-word .kept .0)
 
--- src/records.rt:137:1
 returns : tie.Need-returns
 returns c =
     let a = c .before .before .before .before .before .before .before .before .before .before .before .before .before .args in let r = a .size - 4 in

@@ -1,59 +1,44 @@
+-- `records::put_made` meets its contract: a text without a byte has no record.
 use native.Mathlib.Omega.{arith}
 use lib.Seq.{sets}
-use lib.ListN.{length, length-set}
-use Rattle.values.specs.Words.{twoBytes, part}
+use lib.ListN.{length}
+use Rattle.values.specs.Words.{part}
 use mathlib.Core.Path.{_≡_, sym, ap, _∙_}
 use Prim.Native.Nat.{_+_, _-_}
-use borrow.Author.Tests.{eq-eqb, ne-eqb}
+use borrow.Author.Tests.{ne-eqb}
 use Rattle.two.specs.Steps.{textPieces, textLength, textFields, recordLength}
 use Rattle.two.proofs.Writing.{length-is, text-short, text-half, record-none, record-some}
 use borrow.Author.Needs.{needs}
 use Rattle.two.proofs.records.put_made.Statement.{statement}
 use Rattle.two.proofs.records.put_made.Tie as tie
-use Rattle.two.proofs.records.put_made.Reads as reads
-use Rattle.two.proofs.records.put_made.Lts as lts
-use Rattle.two.proofs.records.put_record.Reads as put-record-reads
-use Rattle.two.proofs.records.record_length.Reads as record-length-reads
-use Rattle.two.proofs.records.text_count.Reads as text-count-reads
-use Rattle.two.proofs.records.text_length.Reads as text-length-reads
 
--- src/records.rt:111:9
 text-length-requires : tie.Need-text-length-requires
 text-length-requires c κs = search needs
 
--- src/records.rt:112:43
 text-count-requires : tie.Need-text-count-requires
 text-count-requires c κs = search needs
 
--- src/records.rt:112:23
 record-length-requires : tie.Need-record-length-requires
 record-length-requires c κs = let a = c .before .before .before .before .args in let f = c .before .before .before .before .pre .0 in let t = a .x .text in let o = part (a .s .now) (a .x .from) (a .x .end - a .x .from) in let s = text-short t o (f .text) in let h = text-half t o (f .text) in (omega arith, omega arith)
 
--- src/records.rt:112:18
 add-behind : tie.Need-add-behind
 add-behind c = search needs
 
--- src/records.rt:114:26
 sub-put-record : tie.Need-sub-put-record
 sub-put-record c = search needs
 
--- src/records.rt:114:26
 part-put-record-start : tie.Need-part-put-record-start
 part-put-record-start c = search needs
 
--- src/records.rt:114:26
 part-put-record-end : tie.Need-part-put-record-end
 part-put-record-end c = search needs
 
--- src/records.rt:114:9
 put-record-requires : tie.Need-put-record-requires
 put-record-requires c κs = let a = c .before .before .before .before .before .before .before .before .args in let f = c .before .before .before .before .before .before .before .before .pre .0 in let t = a .x .text in let o = part (a .s .now) (a .x .from) (a .x .end - a .x .from) in (f .text, rw (ne-eqb _ _ (λ z. c .before .before .if1 .taken (c .before .before .before .before .before .text-length .ensures ∙ z))) at (c .before .before .before .before .before .before .before .before .pre .1))
 
--- src/records.rt:102:1
 same-length : tie.Need-same-length
 same-length c = search needs
 
--- src/records.rt:102:1
 returns : tie.Need-returns
 returns c =
     let a = c .before .before .before .before .before .before .before .before .before .before .before .args in let f = c .before .before .before .before .before .before .before .before .before .before .before .pre .0 in let t = a .x .text in let o = part (a .s .now) (a .x .from) (a .x .end - a .x .from) in
@@ -63,7 +48,6 @@ returns c =
       c .before .before .put-record .ensures ∙ ap (sets (a .m .now) (a .to)) (sym (record-some (a .card) (a .address) (textPieces t o) (λ z. c .before .before .before .before .before .if1 .taken (size .ensures ∙ sym (length-is t o (f .text)) ∙ z)))),
     )
 
--- src/records.rt:102:1
 returns-2 : tie.Need-returns-2
 returns-2 c =
     let a = c .before .before .before .before .before .before .args in let f = c .before .before .before .before .before .before .pre .0 in let t = a .x .text in let o = part (a .s .now) (a .x .from) (a .x .end - a .x .from) in

@@ -1,9 +1,10 @@
+-- `records::put_record` meets its contract: three writes one after the other.
 use native.Mathlib.Omega.{arith}
 use Rattle.values.proofs.Laws.{then}
 use lib.Seq.{sets}
-use lib.ListN.{length, length-set}
+use lib.ListN.{length}
 use mathlib.Core.List.{_∷_, [], _++_}
-use Rattle.values.specs.Words.{twoBytes, part}
+use Rattle.values.specs.Words.{twoBytes}
 use mathlib.Core.Path.{refl, sym, ap, _∙_}
 use Prim.Native.Nat.{_+_, _%_}
 use Rattle.encode.specs.Pieces.{textOf, fieldsOf}
@@ -12,67 +13,46 @@ use Rattle.two.proofs.Writing.{fields-are, length-is, text-short, text-
 use borrow.Author.Needs.{needs}
 use Rattle.two.proofs.records.put_record.Statement.{statement}
 use Rattle.two.proofs.records.put_record.Tie as tie
-use Rattle.two.proofs.records.put_record.Reads as reads
-use Rattle.two.proofs.records.put_record.Lts as lts
-use Rattle.two.proofs.records.put_head.Reads as put-head-reads
-use Rattle.two.proofs.records.put_text_bytes.Reads as put-text-bytes-reads
-use Rattle.two.proofs.records.put_text_fields.Reads as put-text-fields-reads
-use Rattle.two.proofs.records.text_count.Reads as text-count-reads
-use Rattle.two.proofs.records.text_length.Reads as text-length-reads
 
--- src/records.rt:92:9
 text-length-requires : tie.Need-text-length-requires
 text-length-requires c κs = search needs
 
--- src/records.rt:93:9
 text-count-requires : tie.Need-text-count-requires
 text-count-requires c κs = search needs
 
--- src/records.rt:94:18
 add-fields : tie.Need-add-fields
 add-fields c = search needs
 
--- src/records.rt:95:16
 add-text : tie.Need-add-text
 add-text c = search needs
 
--- src/records.rt:96:15
 add-put-head : tie.Need-add-put-head
 add-put-head c = search needs
 
--- src/records.rt:96:15
 add-put-head-2 : tie.Need-add-put-head-2
 add-put-head-2 c = search needs
 
--- src/records.rt:96:14
 cast-put-head : tie.Need-cast-put-head
 cast-put-head c = let a = c .before .before .before .before .args in let f = c .before .before .before .before .pre .0 in let s = text-short (a .t) (a .o .now) f in let h = text-half (a .t) (a .o .now) f in omega arith
 
--- src/records.rt:96:47
 cast-put-head-2 : tie.Need-cast-put-head-2
 cast-put-head-2 c = search needs
 
--- src/records.rt:96:73
 cast-put-head-3 : tie.Need-cast-put-head-3
 cast-put-head-3 c = let a = c .before .before .before .before .args in let f = c .before .before .before .before .pre .0 in let s = text-short (a .t) (a .o .now) f in let h = text-half (a .t) (a .o .now) f in omega arith
 
--- src/records.rt:96:5
 put-head-requires : tie.Need-put-head-requires
 put-head-requires c κs = search needs
 
--- src/records.rt:97:5
 put-text-fields-requires : tie.Need-put-text-fields-requires
 put-text-fields-requires c κs = let a = c .before .before .before .before .before .before .before .before .before .args in let f = c .before .before .before .before .before .before .before .before .before .pre .0 in let s = text-short (a .t) (a .o .now) f in let h = text-half (a .t) (a .o .now) f in (s, omega arith)
 
--- src/records.rt:98:5
 put-text-bytes-requires : tie.Need-put-text-bytes-requires
 put-text-bytes-requires c κs = search needs
 
--- src/records.rt:87:1
 same-length : tie.Need-same-length
 same-length c = search needs
 
--- src/records.rt:87:1
 returns : tie.Need-returns
 returns c =
     let a = c .before .before .before .before .before .before .before .before .before .before .before .before .before .before .before .before .args in let f = c .before .before .before .before .before .before .before .before .before .before .before .before .before .before .before .before .pre .0 in let h = c .before .before .before .before .before .before .before .before .before .before .put-head in let x = c .before .before .before .before .before .before .put-text-fields in let y = c .before .before .put-text-bytes in

@@ -1,24 +1,19 @@
+-- `records::record_length` meets its contract, by its test.
 use native.Mathlib.Omega.{arith}
 use borrow.Author.Tests.{eq-eqb, ne-eqb}
 use borrow.Author.Needs.{needs}
 use Rattle.two.proofs.records.record_length.Statement.{statement}
 use Rattle.two.proofs.records.record_length.Tie as tie
-use Rattle.two.proofs.records.record_length.Reads as reads
-use Rattle.two.proofs.records.record_length.Lts as lts
 
--- src/records.rt:49:9
 returns : tie.Need-returns
 returns c = (rw (eq-eqb _ _ (c .if1 .taken)), omega arith)
 
--- src/records.rt:51:5
 add-result : tie.Need-add-result
 add-result c = search needs
 
--- src/records.rt:51:5
 add-result-2 : tie.Need-add-result-2
 add-result-2 c = search needs
 
--- src/records.rt:44:1
 returns-2 : tie.Need-returns-2
 returns-2 c = (rw (ne-eqb _ _ (c .if1 .left)), omega arith)
 
