@@ -4,13 +4,12 @@ use names::clear;
 use one::One;
 use one::run_one;
 use passes::Assembled;
-use passes::Checked;
-use two::book_length;
-use two::check_two;
+use two::Judged;
+use two::judge_two;
 use two::write_book;
 ghost use mathlib.Core.Path.{_≡_};
 ghost use mathlib.Core.Bool.{true};
-ghost use Prim.Native.Nat.{_*_, _≤_};
+ghost use Prim.Native.Nat.{_*_, _^_, _≤_, _<_};
 ghost use lib.ListN.{length, drop};
 ghost use Rattle.names.specs.Names.{find, ascending};
 ghost use Rattle.names.specs.Table.{namesIn};
@@ -20,19 +19,26 @@ ghost use Rattle.passes.specs.Sound.{sound};
 ghost use Rattle.passes.specs.Two.{outset, checkTwo, bookFrom};
 ghost use Rattle.passes.specs.Assembly.{afterTwo, assembled, written, outcomeOf, assembling};
 
-// 30, or the book in the output.
-fn write(width: usize, source: &[u8], table: &[u8], count: usize, out: &mut [u8]) -> Assembled
+// 30, or the book of so many bytes in the output.
+fn write(
+    size: usize,
+    width: usize,
+    source: &[u8],
+    table: &[u8],
+    count: usize,
+    out: &mut [u8],
+) -> Assembled
     requires { ⌜ (sourceNo width (length (now source)) ≡ 0) × (sound (cardsOf width (now source)) ≡ true) ⌝ }
     requires { ⌜ (16 * count ≤ length (now table)) × (ascending (namesIn count (now table)) ≡ true) × (count ≤ 512) ⌝ }
+    requires { ⌜ (size ≡ length (bookBytes (bookFrom (find (namesIn count (now table))) (cardsOf width (now source))))) × (size < 2 ^ 32) ⌝ }
     ensures { λ r. ⌜ r ≡ written count (bookBytes (bookFrom (find (namesIn count (now (table .entry)))) (cardsOf width (now (source .entry))))) (now (table .entry)) (now (out .entry)) .answer ⌝ }
     ensures { λ _. ⌜ now (out .exit) ≡ written count (bookBytes (bookFrom (find (namesIn count (now (table .entry)))) (cardsOf width (now (source .entry))))) (now (table .entry)) (now (out .entry)) .out ⌝ }
 {
-    let length = book_length(width, source, table, count);
-    if out.len() < length {
+    if out.len() < size {
         return Assembled::Refused(30, 0);
     }
     write_book(width, source, table, count, out);
-    Assembled::Made(length as u32, count as u16)
+    Assembled::Made(size as u32, count as u16)
 }
 
 // Pass two over the names that pass one has found.
@@ -42,9 +48,9 @@ fn finish(width: usize, source: &[u8], table: &[u8], count: usize, out: &mut [u8
     ensures { λ r. ⌜ r ≡ outcomeOf (afterTwo (cardsOf width (now (source .entry))) (namesIn count (now (table .entry))) (checkTwo (find (namesIn count (now (table .entry)))) 1 outset (cardsOf width (now (source .entry))))) (now (table .entry)) (now (out .entry)) .answer ⌝ }
     ensures { λ _. ⌜ now (out .exit) ≡ outcomeOf (afterTwo (cardsOf width (now (source .entry))) (namesIn count (now (table .entry))) (checkTwo (find (namesIn count (now (table .entry)))) 1 outset (cardsOf width (now (source .entry))))) (now (table .entry)) (now (out .entry)) .out ⌝ }
 {
-    match check_two(width, source, table, count) {
-        Checked::Bad(number, card) => Assembled::Refused(number, card),
-        Checked::Clean => write(width, source, table, count, out),
+    match judge_two(width, source, table, count) {
+        Judged::Refused(number, card) => Assembled::Refused(number, card),
+        Judged::Book(size) => write(size, width, source, table, count, out),
     }
 }
 

@@ -2,3 +2,4 @@
 pub mod Cards
 pub mod Writing
 pub mod Loops
+pub mod Judging

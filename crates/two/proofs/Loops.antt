@@ -1,5 +1,5 @@
 -- A turn over the cards of a source: the card that was read, and those behind it.
-use Prim.Native.Nat.{ℕ, _+_, _-_, _≤_, _<_}
+use Prim.Native.Nat.{ℕ, _+_, _-_, _*_, _≤_, _<_}
 use mathlib.Core.List.{List, [], _∷_, _++_}
 use mathlib.Core.Path.{_≡_, refl, sym, ap, _∙_}
 use mathlib.Core.Bool.{true}
@@ -17,14 +17,15 @@ use Rattle.lines.specs.Lines.{readingOf}
 use Rattle.passes.specs.declared.Course.{Course}
 use Rattle.passes.specs.declared.Checked.the-variants.{Clean, Bad}
 use Rattle.passes.specs.Sound.{soundReading, sound}
-use Rattle.passes.specs.Two.{twoNo, stepTwo, checkTwo, cardPieces, recordsFrom, entryFrom}
+use Rattle.passes.specs.Two.{stepTwo, checkTwo, cardPieces, recordsFrom, entryFrom}
 use Rattle.passes.proofs.Turns.{check-more, check-stop, check-end}
+use Rattle.two.specs.declared.Turn.{Turn}
 use Rattle.two.specs.declared.making.Sought.{Sought}
 use Rattle.two.specs.declared.making.Sought.the-variants.{Open, Found}
 use Rattle.two.specs.declared.making.Made.{Made}
-use Rattle.two.specs.Steps.{textPieces, entryOr, firstOf, cardMade, textLength, textFields, recordLength, cardRecord, MadeFits}
+use Rattle.two.specs.Steps.{textPieces, entryOr, firstOf, cardMade, textLength, textFields, recordLength, cardRecord, cardTurn, MadeFits}
 use Rattle.two.proofs.Cards.{made-course, made-entry, made-fits, step-most}
-use Rattle.two.proofs.Writing.{made-are, made-size, records-more, records-none}
+use Rattle.two.proofs.Writing.{made-are, text-short, text-half, made-size, records-more, records-none}
 
 -- the first END counts
 pub first-or : (a b : Sought) (rest : BookEntry) → entryOr a (entryOr b rest) ≡ entryOr (firstOf a b) rest
@@ -41,12 +42,6 @@ module _ (width : ℕ) (s : List ℕ) (at left : ℕ) (card : List ℕ) (is : ca
   sound-on h = both-true _ _ (sym (ap sound first) ∙ h)
 
   module _ (look : ℕ → Entry) (k : ℕ) (c : Course) where
-    pub check-on : twoNo look c card ≡ 0 → checkTwo look k c (cardsFrom left width s at) ≡ checkTwo look (k + 1) (stepTwo look c card) (cardsFrom (left - 1) width s (at + width))
-    check-on h = ap (checkTwo look k c) first ∙ check-more look k c card _ h
-
-    pub check-bad : (twoNo look c card ≡ 0 → ⊥) → checkTwo look k c (cardsFrom left width s at) ≡ Bad (twoNo look c card) k
-    check-bad h = ap (checkTwo look k c) first ∙ check-stop look k c card _ h
-
     -- what the card makes, and what those behind it make
     module _ (x : Made) (made : x ≡ cardMade look c card) (ok : soundReading (readingOf card) ≡ true) where
       pub card-fits : MadeFits x card
@@ -84,6 +79,33 @@ module _ (width : ℕ) (s : List ℕ) (at left : ℕ) (card : List ℕ) (is : ca
       entry-on e =
           ap (λ ss. entryOr e (entryFrom look c ss)) first ∙ ap (entryOr e) (made-entry look c card (cardsFrom (left - 1) width s (at + width)))
           ∙ rw (next, made) (first-or e (cardMade look c card .entry) (entryFrom look (stepTwo look c card) (cardsFrom (left - 1) width s (at + width))))
+
+    -- what is found on the card, and behind it
+    module _ (t : Turn) (found : t ≡ cardTurn look c card) where
+      pub check-on : t .number ≡ 0 → checkTwo look k c (cardsFrom left width s at) ≡ checkTwo look (k + 1) (t .course) (cardsFrom (left - 1) width s (at + width))
+      check-on h =
+          let next = ap (λ (x : Turn). x .course) found ∙ made-course look c card in
+          ap (checkTwo look k c) first ∙ check-more look k c card _ (sym (ap (λ (x : Turn). x .number) found) ∙ h)
+          ∙ ap (λ x. checkTwo look (k + 1) x (cardsFrom (left - 1) width s (at + width))) (sym next)
+
+      pub check-bad : (t .number ≡ 0 → ⊥) → checkTwo look k c (cardsFrom left width s at) ≡ Bad (t .number) k
+      check-bad h =
+          let number = ap (λ (x : Turn). x .number) found in
+          ap (checkTwo look k c) first ∙ check-stop look k c card _ (λ z. h (number ∙ z)) ∙ ap (λ n. Bad n k) (sym number)
+
+      module _ (ok : soundReading (readingOf card) ≡ true) where
+        pub turn-fits : (t .size ≤ 256) × (2 * t .fields ≤ t .size)
+        turn-fits =
+            let x = cardMade look c card in
+            let f = made-fits look c card ok .text in
+            rw found (text-short (x .text) (part card (x .from) (x .end - x .from)) f, text-half (x .text) (part card (x .from) (x .end - x .from)) f)
+
+        pub turn-most : t .course .counter ≤ c .counter + 65536
+        turn-most = rw found (course-most (cardMade look c card) refl ok)
+
+        pub turn-length : length (recordsBytes (recordsFrom look k c (cardsFrom left width s at)))
+            ≡ recordLength (t .size) (t .fields) + length (recordsBytes (recordsFrom look (k + 1) (t .course) (cardsFrom (left - 1) width s (at + width))))
+        turn-length = rw found (length-on (cardMade look c card) refl ok)
 
 -- no card is left
 module _ (width : ℕ) (s : List ℕ) (at left : ℕ) (none : left ≤ 0) (look : ℕ → Entry) (k : ℕ) (c : Course) where

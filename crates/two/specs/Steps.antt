@@ -29,21 +29,19 @@ use Rattle.lines.specs.Lines.{readingOf}
 use Rattle.passes.specs.declared.Role.{Role}
 use Rattle.passes.specs.declared.Role.the-variants.{Starts, Equates, SetsCounter, Ends, Makes}
 use Rattle.passes.specs.declared.Course.{Course}
+use Rattle.passes.specs.declared.Checked.{Checked}
+use Rattle.passes.specs.declared.Checked.the-variants.{Clean, Bad}
 use Rattle.passes.specs.Cards.{roleOf, operandsAt, counterBy}
-use Rattle.passes.specs.Two.{readingTwoNo, readingTwoStep, twoNo, stepTwo, recordOf, entryBy}
+use Rattle.passes.specs.Two.{readingTwoNo, twoNo, recordOf, entryBy}
+use Rattle.two.specs.declared.Judged.{Judged}
+use Rattle.two.specs.declared.Judged.the-variants.{Book, Refused}
 use Rattle.two.specs.declared.Turn.{Turn}
 use Rattle.two.specs.declared.making.Text.{Text}
 use Rattle.two.specs.declared.making.Sought.{Sought}
 use Rattle.two.specs.declared.making.Sought.the-variants.{Open, Found}
 use Rattle.two.specs.declared.making.Made.{Made}
 
--- CHECKING
-
-abbrev pub readingTurn : (ℕ → Entry) → Course → List ℕ → Reading → Turn
-readingTurn look c s x = record { number = readingTwoNo look c s x; course = readingTwoStep look c s x }
-
-abbrev pub cardTurn : (ℕ → Entry) → Course → List ℕ → Turn
-cardTurn look c s = record { number = twoNo look c s; course = stepTwo look c s }
+-- WHAT A CARD MAKES
 
 -- behind a line whose expressions came to x
 abbrev pub courseBy : Course → Line → Operands → Course
@@ -51,8 +49,6 @@ courseBy c l x = record {
   counter = counterBy (roleOf (l .operation)) x (c .counter) l;
   bases = basesAfter (l .operation) x (c .bases);
 }
-
--- WHAT A CARD MAKES
 
 -- C, X and D are told by the columns, A by its statement
 abbrev pub textBy : DataType → Data → Stated → Text
@@ -125,6 +121,29 @@ textLength (Text.Stated st) = length (textOf (piecesOf st))
 abbrev pub textFields : Text → List ℕ
 textFields (Text.Columns d) = []
 textFields (Text.Stated st) = fieldsOf (piecesOf st)
+
+-- JUDGING
+
+-- what is found on a card that has a number of refusal and makes x
+abbrev pub turnBy : ℕ → Made → Turn
+turnBy number x = record { number = number; size = textLength (x .text); fields = length (textFields (x .text)); course = x .course }
+
+abbrev pub readingTurn : (ℕ → Entry) → Course → List ℕ → Reading → Turn
+readingTurn look c s x = turnBy (readingTwoNo look c s x) (readingMade look c s x)
+
+abbrev pub cardTurn : (ℕ → Entry) → Course → List ℕ → Turn
+cardTurn look c s = turnBy (twoNo look c s) (cardMade look c s)
+
+-- the length of the book counts where no card is refused
+abbrev pub judgedAs : Checked → ℕ → Judged
+judgedAs Clean n = Book n
+judgedAs (Bad number card) n = Refused number card
+
+abbrev pub judgedLength : Judged → ℕ
+judgedLength (Book n) = n
+judgedLength (Refused number card) = 0
+
+-- RECORDS
 
 -- the bytes of a record with so many bytes of text and so many fields: none without text
 abbrev pub recordLength : ℕ → ℕ → ℕ

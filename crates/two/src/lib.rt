@@ -1,4 +1,4 @@
-// Pass two, over the cards in order: the first card that it refuses; then the length and the bytes of the book.
+// Pass two, over the cards in order: once to find the first card that it refuses and the length of the book, once to write the book.
 pub mod making;
 pub mod records;
 
@@ -12,7 +12,7 @@ use making::course_after;
 use making::entry_in;
 use making::first_of;
 use making::make_card;
-use passes::Checked;
+use making::text_from;
 use passes::Course;
 use passes::operands_at;
 use records::put_header;
@@ -23,6 +23,7 @@ use records::text_length;
 use statements::number_of;
 use statements::places::Base;
 use statements::places::Bases;
+use statements::statement_from;
 ghost use mathlib.Core.Path.{_≡_};
 ghost use mathlib.Core.Bool.{true};
 ghost use Prim.Native.Nat.{_+_, _*_, _^_, _≤_, _<_};
@@ -37,11 +38,19 @@ ghost use Rattle.lines.specs.declared.Reading.the-variants.{Statement};
 ghost use Rattle.lines.specs.Lines.{readingOf};
 ghost use Rattle.passes.specs.Sound.{soundReading, sound};
 ghost use Rattle.passes.specs.Two.{outset, checkTwo, bookFrom};
-ghost use Rattle.two.specs.Steps.{readingTurn, cardTurn};
+ghost use Rattle.two.specs.Steps.{turnBy, readingTurn, cardTurn, judgedAs, judgedLength, madeNone};
 
-// What pass two finds on a card: its refusal, or 0, and where the pass stands behind it.
+// What pass two finds: how many bytes the book has, or a number of refusal at a card.
+pub enum Judged {
+    Book(usize),
+    Refused(u8, u16),
+}
+
+// What pass two finds on a card: its refusal, or 0; how many bytes and relocatable fields its text has; where the pass stands behind it.
 pub struct Turn {
     pub number: u8,
+    pub size: usize,
+    pub fields: usize,
     pub course: Course,
 }
 
@@ -58,88 +67,80 @@ fn first_course() -> Course
     }
 }
 
-fn check_line(c: Course, l: Line, card: &[u8], table: &[u8], count: usize) -> Turn
+fn judge_line(c: Course, l: Line, card: &[u8], table: &[u8], count: usize) -> Turn
     requires { ⌜ (readingOf (now card) ≡ Statement l) × (c .counter + sizeOf (l .operation) (l .shape) < 2 ^ 32) ⌝ }
     requires { ⌜ (16 * count ≤ length (now table)) × (ascending (namesIn count (now table)) ≡ true) ⌝ }
     ensures { λ r. ⌜ r ≡ readingTurn (find (namesIn count (now (table .entry)))) c (now (card .entry)) (Statement l) ⌝ }
 {
     let operation = l.operation;
+    let shape = l.shape;
     let counter = c.counter;
     let bases = c.bases;
     let x = operands_at(l, card, table, count, counter);
     let number = number_of(operation, x, counter, bases);
+    let text = text_from(shape, statement_from(operation, x, counter, bases));
+    let size = text_length(text);
+    let fields = text_count(text);
     let course = course_after(c, l, x);
     Turn {
         number: number,
+        size: size,
+        fields: fields,
         course: course,
     }
 }
 
-fn check_card(c: Course, card: &[u8], table: &[u8], count: usize) -> Turn
+// A comment is not refused, and makes nothing.
+fn judge_none(c: Course) -> Turn
+    ensures { λ r. ⌜ r ≡ turnBy 0 (madeNone c) ⌝ }
+{
+    Turn {
+        number: 0,
+        size: 0,
+        fields: 0,
+        course: c,
+    }
+}
+
+fn judge_card(c: Course, card: &[u8], table: &[u8], count: usize) -> Turn
     requires { ⌜ (soundReading (readingOf (now card)) ≡ true) × (c .counter + 65536 < 2 ^ 32) ⌝ }
     requires { ⌜ (16 * count ≤ length (now table)) × (ascending (namesIn count (now table)) ≡ true) ⌝ }
     ensures { λ r. ⌜ r ≡ cardTurn (find (namesIn count (now (table .entry)))) c (now (card .entry)) ⌝ }
 {
     match read_line(card) {
-        Reading::Comment => Turn {
-            number: 0,
-            course: c,
-        },
-        Reading::BadName => Turn {
-            number: 0,
-            course: c,
-        },
-        Reading::Statement(l) => check_line(c, l, card, table, count),
+        Reading::Comment => judge_none(c),
+        Reading::BadName => judge_none(c),
+        Reading::Statement(l) => judge_line(c, l, card, table, count),
     }
 }
 
-// The first card of a source that pass two refuses, over the names of a table.
-pub fn check_two(width: usize, source: &[u8], table: &[u8], count: usize) -> Checked
+// The first card of a source that pass two refuses, over the names of a table; or else the length of the book.
+pub fn judge_two(width: usize, source: &[u8], table: &[u8], count: usize) -> Judged
     requires { ⌜ (sourceNo width (length (now source)) ≡ 0) × (sound (cardsOf width (now source)) ≡ true) ⌝ }
     requires { ⌜ (16 * count ≤ length (now table)) × (ascending (namesIn count (now table)) ≡ true) ⌝ }
-    ensures { λ r. ⌜ r ≡ checkTwo (find (namesIn count (now (table .entry)))) 1 outset (cardsOf width (now (source .entry))) ⌝ }
+    ensures { λ r. ⌜ r ≡ judgedAs (checkTwo (find (namesIn count (now (table .entry)))) 1 outset (cardsOf width (now (source .entry)))) (length (bookBytes (bookFrom (find (namesIn count (now (table .entry)))) (cardsOf width (now (source .entry)))))) ⌝ }
+    ensures { λ r. ⌜ judgedLength r ≤ 1564008 ⌝ }
 {
     let columns = columns_of(width as u32);
     let mut c = first_course();
     let mut left = source.len() / width;
     let mut at = 0;
     let mut k: u16 = 1;
+    let mut sum = 8;
     while 0 < left {
         let card = card_at(source, at, columns);
-        let turn = check_card(c, card, table, count);
+        let turn = judge_card(c, card, table, count);
         let number = turn.number;
         if number != 0 {
-            return Checked::Bad(number, k);
+            return Judged::Refused(number, k);
         }
+        sum += record_length(turn.size, turn.fields);
         c = turn.course;
         left -= 1;
         at += width;
         k += 1;
     }
-    Checked::Clean
-}
-
-// How many bytes the book of a source has.
-pub fn book_length(width: usize, source: &[u8], table: &[u8], count: usize) -> usize
-    requires { ⌜ (sourceNo width (length (now source)) ≡ 0) × (sound (cardsOf width (now source)) ≡ true) ⌝ }
-    requires { ⌜ (16 * count ≤ length (now table)) × (ascending (namesIn count (now table)) ≡ true) ⌝ }
-    ensures { λ r. ⌜ (r ≡ length (bookBytes (bookFrom (find (namesIn count (now (table .entry)))) (cardsOf width (now (source .entry)))))) × (r ≤ 1564008) ⌝ }
-{
-    let columns = columns_of(width as u32);
-    let mut c = first_course();
-    let mut left = source.len() / width;
-    let mut at = 0;
-    let mut sum = 8;
-    while 0 < left {
-        let card = card_at(source, at, columns);
-        let made = make_card(c, card, table, count);
-        let text = made.text;
-        sum += record_length(text_length(text), text_count(text));
-        c = made.course;
-        left -= 1;
-        at += width;
-    }
-    sum
+    Judged::Book(sum)
 }
 
 // The book of a source, laid over the start of a slice.

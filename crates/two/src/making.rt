@@ -78,7 +78,8 @@ fn text_by(kind: DataType, d: Data, st: Statement) -> Text
     }
 }
 
-fn text_from(shape: Shape, st: Statement) -> Text
+// Where the text of a line comes from.
+pub fn text_from(shape: Shape, st: Statement) -> Text
     ensures { λ r. ⌜ r ≡ textFrom shape st ⌝ }
 {
     match shape {

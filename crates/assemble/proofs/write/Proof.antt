@@ -7,54 +7,32 @@ use Rattle.assemble.proofs.Ways.{past-output, book-written}
 use borrow.Author.Needs.{needs}
 use Rattle.assemble.proofs.write.Statement.{statement}
 use Rattle.assemble.proofs.write.Tie as tie
-use Rattle.assemble.proofs.write.Reads as reads
-use Rattle.assemble.proofs.write.Lts as lts
-use Rattle.two.proofs.book_length.Reads as book-length-reads
-use Rattle.two.proofs.write_book.Reads as write-book-reads
 
--- src/lib.rt:30:9
-book-length-requires : tie.Need-book-length-requires
-book-length-requires c κs = search needs
-
--- src/lib.rt:32:9
 returns : tie.Need-returns
 returns c =
-    let a = c .before .before .before .before .before .args in
-    past-output (a .count) (bookBytes (bookFrom (find (namesIn (a .count) (a .table .now))) (cardsOf (a .width) (a .source .now)))) (a .table .now) (a .out .now) _ (c .before .book-length .ensures .0) (c .if1 .taken)
+    let a = c .before .before .before .before .args in
+    past-output (a .count) (bookBytes (bookFrom (find (namesIn (a .count) (a .table .now))) (cardsOf (a .width) (a .source .now)))) (a .table .now) (a .out .now) _ (c .before .before .before .before .pre .1 .1 .0) (c .if1 .taken)
 
--- src/lib.rt:34:5
 write-book-requires : tie.Need-write-book-requires
 write-book-requires c κs =
-    let p = c .before .before .before .before .before .before .pre in
+    let p = c .before .before .before .before .before .pre in
     let l = c .before .if1 .left in
-    (p .0, ((p .1 .0, p .1 .1), rw (c .before .before .book-length .ensures .0) at l))
+    (p .0, ((p .1 .0 .0, p .1 .0 .1), rw (p .1 .1 .0) at l))
 
--- src/lib.rt:35:21
 cast-t12 : tie.Need-cast-t12
 cast-t12 c = search needs
 
--- src/lib.rt:35:36
 cast-t13 : tie.Need-cast-t13
 cast-t13 c = search needs
 
--- src/lib.rt:24:1
 same-length : tie.Need-same-length
 same-length c = search needs
 
--- src/lib.rt:24:1
 returns-2 : tie.Need-returns-2
 returns-2 c =
-    let a = c .before .before .before .before .before .before .before .before .before .args in
-    book-written (a .count) (bookBytes (bookFrom (find (namesIn (a .count) (a .table .now))) (cardsOf (a .width) (a .source .now)))) (a .table .now) (a .out .now) _ _ (c .before .before .before .before .before .book-length .ensures .0) (c .before .before .before .before .if1 .left) (c .before .before .write-book .ensures)
+    let a = c .before .before .before .before .before .before .before .before .args in
+    book-written (a .count) (bookBytes (bookFrom (find (namesIn (a .count) (a .table .now))) (cardsOf (a .width) (a .source .now)))) (a .table .now) (a .out .now) _ _ (c .before .before .before .before .before .before .before .before .pre .1 .1 .0) (c .before .before .before .before .if1 .left) (c .before .before .write-book .ensures)
 
 pub write-spec : {M : Type 1} → statement M
 write-spec =
-    tie.close
-    (tie.spec
-    book-length-requires
-    returns
-    write-book-requires
-    cast-t12
-    cast-t13
-    same-length
-    returns-2)
+    tie.close (tie.spec returns write-book-requires cast-t12 cast-t13 same-length returns-2)
