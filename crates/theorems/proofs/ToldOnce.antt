@@ -24,7 +24,7 @@ use Rattle.passes.specs.Assembly.{Outcome as AssemblyOutcome, assembling}
 use Rattle.passes.proofs.Names.{pass-few}
 use Rattle.cards.specs.Source.{cardsOf}
 use Rattle.book.proofs.Laws.{fields-few}
-use Rattle.mersclund.specs.Packed.{packedEntry, packedLoad}
+use Rattle.mersclund.specs.Packed.{packedEntry, packedLoad, packedAssembled}
 use Rattle.theorems.specs.Sums.{total, recordLength}
 use Rattle.theorems.specs.ToldOnce.{Loads, Assembles, Prints}
 use Rattle.theorems.proofs.Made.{both-passed}
@@ -42,7 +42,7 @@ pub load-once : (book : List ℕ) (displacement : ℕ) (storage : List ℕ) (r s
     → Loads book displacement storage r m → Loads book displacement storage s n → (r ≡ s) × (m ≡ n)
 load-once book displacement storage r s m n x y = (x .answer ∙ sym (y .answer), x .stored ∙ sym (y .stored))
 
-pub assemble-once : (width : ℕ) (source work out : List ℕ) (r s : Assembled) (w x o p : List ℕ)
+pub assemble-once : (width : ℕ) (source work out : List ℕ) (r s : ℕ) (w x o p : List ℕ)
     → Assembles width source work out r w o → Assembles width source work out s x p → (r ≡ s) × (w ≡ x) × (o ≡ p)
 assemble-once width source work out r s w x o p f g =
     (f .answer ∙ sym (g .answer), f .worked ∙ sym (g .worked), f .written ∙ sym (g .written))
@@ -141,7 +141,7 @@ load-one-to-one s d m t e n = load-packed (loading s d m .answer) (loading t e n
 
 -- WHAT AN ASSEMBLY ANSWERS FITS: the book's length in 32 bits, at most 512 names; a number of refusal that is not 0, with a card
 
-abbrev pub FitsIn : Assembled → Type 0
+abbrev FitsIn : Assembled → Type 0
 FitsIn (Made bytes names) = (bytes ≤ 1564008) × (names ≤ 512)
 FitsIn (Refused number card) = (1 ≤ number) × (number ≤ 30) × (card ≤ 4000)
 
@@ -159,7 +159,7 @@ records-low (r ∷ rs) last f h =
     let ih = records-low rs (r .card) others card in
     omega arith
 
-pub assemble-fits : (width : ℕ) (source work out : List ℕ) → FitsIn (assembling width source work out .answer)
+assemble-fits : (width : ℕ) (source work out : List ℕ) → FitsIn (assembling width source work out .answer)
 assemble-fits width source work out = go (way width source work out)
   where
     is : (a : Assembled) → assembling width source work out .answer ≡ a → FitsIn a → FitsIn (assembling width source work out .answer)
@@ -178,3 +178,16 @@ assemble-fits width source work out = go (way width source work out)
         let size = book-length b in
         let low = records-low (b .records) 0 (fair-records (cardsOf width source) few n b f) (omega arith) in
         is (Made (length (bookBytes b)) n) (ap (λ (x : AssemblyOutcome). x .answer) e) (omega arith, omega arith)
+
+assemble-packed : (a b : Assembled) → FitsIn a → FitsIn b → packedAssembled a ≡ packedAssembled b → a ≡ b
+assemble-packed (Made x m) (Made y n) (h, i) (k, j) q = let bytes : x ≡ y = omega arith in let names : m ≡ n = omega arith in cc
+assemble-packed (Refused x m) (Refused y n) (h, i, l) (k, j, o) q = let number : x ≡ y = omega arith in let card : m ≡ n = omega arith in cc
+assemble-packed (Made x m) (Refused y n) (h, i) (k, j, o) q = absurd (omega arith)
+assemble-packed (Refused x m) (Made y n) (h, i, l) (k, j) q = absurd (omega arith)
+
+-- two assemblies, of whatever sources, that answer with the same number answer the same
+pub assemble-one-to-one : (width : ℕ) (source work out : List ℕ) (width′ : ℕ) (source′ work′ out′ : List ℕ)
+    → packedAssembled (assembling width source work out .answer) ≡ packedAssembled (assembling width′ source′ work′ out′ .answer)
+    → assembling width source work out .answer ≡ assembling width′ source′ work′ out′ .answer
+assemble-one-to-one width source work out width′ source′ work′ out′ =
+    assemble-packed (assembling width source work out .answer) (assembling width′ source′ work′ out′ .answer) (assemble-fits width source work out) (assemble-fits width′ source′ work′ out′)
