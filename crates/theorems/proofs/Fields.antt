@@ -3,13 +3,17 @@
 use Prim.Native.Nat.{ℕ, zero, suc, _+_, _≤_, _<_}
 use mathlib.Core.List.{List, [], _∷_, _++_, map, List·Memᴰ, List·Memᴰ·cases-cons, List·Memᴰ·not-nil, Memᴰ·cast}
 use mathlib.Core.List.List·Memᴰ.{List·Memᴰ·head, List·Memᴰ·tail}
-use mathlib.Core.Bool.{true}
+use mathlib.Core.Bool.{Bool, true, false}
 use mathlib.Core.Path.{_≡_, refl, sym, ap, _∙_, subst}
 use mathlib.Core.Logic.{_⊎_, inl, inr, _↔_}
 use native.Mathlib.Nat.{add-zero}
 use native.Mathlib.Omega.{arith}
 use lib.ListN.{length, getD}
-use lib.Seq.{sets}
+use lib.Dec.{leb, ltb}
+use lib.Seq.{sets, length-sets}
+use borrow.Author.Tests.{leb-true, ltb-false}
+use Rattle.values.specs.Tests.{either}
+use Rattle.values.proofs.Laws.{both-true}
 use Rattle.values.specs.declared.Value.{Value}
 use Rattle.values.specs.declared.Relocatable.{Relocatable as Place}
 use Rattle.values.specs.declared.Value.the-variants.{Absolute, Relocatable}
@@ -19,7 +23,7 @@ use Rattle.names.specs.Names.{find}
 use Rattle.book.specs.Book.{Record, Book, fieldsFit}
 use Rattle.encode.specs.Pieces.{Piece, textOf, fieldsFrom, fieldsOf}
 use Rattle.encode.specs.Pieces.Piece.{plain, value}
-use Rattle.fields.specs.Fields.{movedIn, movedText}
+use Rattle.fields.specs.Fields.{movedIn, movedText, overIn, overField}
 use Rattle.passes.specs.declared.Course.{Course}
 use Rattle.passes.specs.One.{State, fresh, stepOne, passOne}
 use Rattle.passes.specs.One.Passed.{through}
@@ -35,7 +39,7 @@ use Rattle.theorems.proofs.RaisedText.{moved-pieces}
 use Rattle.theorems.proofs.Grow.{same-counters}
 use Rattle.theorems.proofs.Texts.{card-makes, fields-fit, some-text}
 use Rattle.theorems.proofs.Made.{Both, both-passed}
-use Rattle.theorems.proofs.Stores.{sets-other}
+use Rattle.theorems.proofs.Stores.{sets-other, sets-there}
 
 -- THE OFFSETS OF PIECES
 
@@ -115,6 +119,70 @@ other-bytes d r i apart = moved-other d (r .text) (r .fields) (r .text) i apart
 -- .. and where every value among the pieces is raised by d, a plain byte and an absolute value keep their bytes
 pub raised-other : (d : ℕ) (ps : List Piece) (i : ℕ) → Apart i (fieldsOf ps) → getD (textOf (map (raisedPiece d) ps)) i 0 ≡ getD (textOf ps) i 0
 raised-other d ps i apart = ap (λ t. getD t i 0) (sym (moved-pieces d ps)) ∙ moved-other d (textOf ps) (fieldsOf ps) (textOf ps) i apart
+
+-- EACH LISTED FIELD
+
+-- offsets that fit are no lower than the least
+fields-above : (least size : ℕ) (os : List ℕ) → fieldsFit least size os ≡ true → (o : ℕ) → List·Memᴰ o os → least ≤ o
+unfolding fieldsFit
+fields-above least size [] e o m = absurd (List·Memᴰ·not-nil m)
+fields-above least size (p ∷ os) e o m =
+    let (low, rest) = both-true (leb least p) _ e in
+    let (inside, others) = both-true (leb (p + 2) size) _ rest in
+    let a = leb-true least p low in
+    go a (fields-above (p + 2) size os others o) (List·Memᴰ·cases-cons m)
+  where
+    go : least ≤ p → (List·Memᴰ o os → p + 2 ≤ o) → (o ≡ p) ⊎ List·Memᴰ o os → least ≤ o
+    go a ih (inl e) = omega arith
+    go a ih (inr x) = let b = ih x in omega arith
+
+-- a value of two bytes, read where it was put
+word-there : (t : List ℕ) (o n : ℕ) → o + 2 ≤ length t → n ≤ 65535 → word (sets t o (twoBytes n)) o ≡ n
+unfolding word
+word-there t o n room low =
+    let here : o + 0 ≡ o = omega arith in
+    let high = ap (λ i. getD (sets t o (twoBytes n)) i 0) (sym here) ∙ sets-there t o (twoBytes n) 0 (omega arith) (omega arith) in
+    let next = sets-there t o (twoBytes n) 1 (omega arith) (omega arith) in
+    omega arith
+
+-- a field that lies below the others, once it is put, stays
+first-field : (d : ℕ) (was os t : List ℕ) (p size n : ℕ) → fieldsFit (p + 2) size os ≡ true → p + 2 ≤ length t → n ≤ 65535
+    → word (movedIn d was os (sets t p (twoBytes n))) p ≡ n
+unfolding word
+first-field d was os t p size n others room low =
+    let a = moved-other d was os (sets t p (twoBytes n)) p (apart p (omega arith)) in
+    let b = moved-other d was os (sets t p (twoBytes n)) (p + 1) (apart (p + 1) (omega arith)) in
+    let c = word-there t p n room low in
+    omega arith
+  where
+    apart : (i : ℕ) → i < p + 2 → Apart i os
+    apart i h q x = let a = fields-above (p + 2) size os others q x in inl (omega arith)
+
+moved-field : (d : ℕ) (was os t : List ℕ) (least size : ℕ) → fieldsFit least size os ≡ true → size ≤ length t → overIn d was os ≡ false
+    → (o : ℕ) → List·Memᴰ o os → word (movedIn d was os t) o ≡ word was o + d
+unfolding fieldsFit movedIn overIn
+moved-field d was [] t least size e room u o m = absurd (List·Memᴰ·not-nil m)
+moved-field d was (p ∷ os) t least size e room u o m =
+    let (low, rest) = both-true (leb least p) _ e in
+    let (inside, others) = both-true (leb (p + 2) size) _ rest in
+    let ends = leb-true (p + 2) size inside in
+    let same = length-sets t p (twoBytes (word was p + d)) in
+    go others (omega arith) (ltb 65535 (word was p + d)) refl u (moved-field d was os put (p + 2) size others (omega arith)) (List·Memᴰ·cases-cons m)
+  where
+    put : List ℕ
+    put = sets t p (twoBytes (word was p + d))
+
+    go : fieldsFit (p + 2) size os ≡ true → p + 2 ≤ length t → (b : Bool) → ltb 65535 (word was p + d) ≡ b → either b (overIn d was os) ≡ false
+        → (overIn d was os ≡ false → (o : ℕ) → List·Memᴰ o os → word (movedIn d was os put) o ≡ word was o + d)
+        → (o ≡ p) ⊎ List·Memᴰ o os → word (movedIn d was os put) o ≡ word was o + d
+    go others inside true q u ih m = let z : _≡_ {A = ℕ} 0 1 = cc in absurd (omega arith)
+    go others inside false q u ih (inl e) = rw e (first-field d was os t p size (word was p + d) others inside (ltb-false 65535 (word was p + d) q))
+    go others inside false q u ih (inr x) = ih u o x
+
+-- the displacement is added to each listed field
+pub field-moved : (d : ℕ) (r : Record) → fieldsFit 0 (length (r .text)) (r .fields) ≡ true → overField d r ≡ false
+    → (o : ℕ) → List·Memᴰ o (r .fields) → word (movedText d r) o ≡ word (r .text) o + d
+field-moved d r fit u o m = moved-field d (r .text) (r .fields) (r .text) 0 (length (r .text)) fit (omega arith) u o m
 
 -- THE RECORDS OF THE CARDS
 

@@ -14,6 +14,7 @@ pub mod Readable
 pub mod Sums
 pub mod Fields
 pub mod Untouched
+pub mod Stored
 pub mod ToldOnce
 mod RaisedOperands
 mod RaisedStatements

@@ -161,7 +161,7 @@ module _ (d : ℕ) where
   abbrev pub OutsideAll : ℕ → List Record → Type 0
   OutsideAll i rs = (r : Record) → List·Memᴰ r rs → (i < r .address + d) ⊎ (r .address + d + length (r .text) ≤ i)
 
-  stored-other : (rs : List Record) (m : List ℕ) (i : ℕ) → OutsideAll i rs → getD (storedAll d rs m) i 0 ≡ getD m i 0
+  pub stored-other : (rs : List Record) (m : List ℕ) (i : ℕ) → OutsideAll i rs → getD (storedAll d rs m) i 0 ≡ getD m i 0
   unfolding storedAll stored
   stored-other [] m i h = refl
   stored-other (r ∷ rs) m i h =
