@@ -33,7 +33,7 @@ use Rattle.passes.specs.Assembly.Result.{made}
 use Rattle.passes.proofs.Turns.{pass-turn}
 use Rattle.theorems.specs.Grow.{behindTwo, namesBy, lookIn, counterOne, counterTwo}
 use Rattle.theorems.specs.Readable.{makes}
-use Rattle.theorems.specs.Fields.{piecesAt, recordAt, Starts, Apart}
+use Rattle.theorems.specs.Fields.{piecesAt, cardRecord, FieldAt, Apart}
 use Rattle.theorems.specs.Raised.{raisedPiece}
 use Rattle.theorems.proofs.RaisedText.{moved-pieces}
 use Rattle.theorems.proofs.Grow.{same-counters}
@@ -44,20 +44,20 @@ use Rattle.theorems.proofs.Stores.{sets-other, sets-there}
 -- THE OFFSETS OF PIECES
 
 -- a piece more in front: a plain byte, a value
-behind-plain : (b : ℕ) (ps : List Piece) (n : ℕ) → Starts ps n → Starts (plain b ∷ ps) (n + 1)
+behind-plain : (b : ℕ) (ps : List Piece) (n : ℕ) → FieldAt ps n → FieldAt (plain b ∷ ps) (n + 1)
 unfolding textOf
 behind-plain b ps n x =
     let e = x .bytes in
     record { before = plain b ∷ x .before; place = x .place; behind = x .behind; pieces = ap (λ l. plain b ∷ l) (x .pieces); bytes = omega arith }
 
-behind-value : (v : Value) (ps : List Piece) (n : ℕ) → Starts ps n → Starts (value v ∷ ps) (n + 2)
+behind-value : (v : Value) (ps : List Piece) (n : ℕ) → FieldAt ps n → FieldAt (value v ∷ ps) (n + 2)
 unfolding textOf
 behind-value v ps n x =
     let e = x .bytes in
     record { before = value v ∷ x .before; place = x .place; behind = x .behind; pieces = ap (λ l. value v ∷ l) (x .pieces); bytes = omega arith }
 
 -- at every offset that is listed a relocatable value starts
-listed-starts : (ps : List Piece) (at o : ℕ) → List·Memᴰ o (fieldsFrom at ps) → (n : ℕ) × (o ≡ at + n) × (Starts ps n)
+listed-starts : (ps : List Piece) (at o : ℕ) → List·Memᴰ o (fieldsFrom at ps) → (n : ℕ) × (o ≡ at + n) × (FieldAt ps n)
 unfolding fieldsFrom textOf
 listed-starts [] at o h = absurd (List·Memᴰ·not-nil h)
 listed-starts (plain b ∷ ps) at o h =
@@ -68,8 +68,8 @@ listed-starts (value (Absolute a) ∷ ps) at o h =
     (n + 2, omega arith, behind-value (Absolute a) ps n x)
 listed-starts (value (Relocatable a) ∷ ps) at o h = go (List·Memᴰ·cases-cons h) (listed-starts ps (at + 2) o)
   where
-    go : (o ≡ at) ⊎ List·Memᴰ o (fieldsFrom (at + 2) ps) → (List·Memᴰ o (fieldsFrom (at + 2) ps) → (n : ℕ) × (o ≡ at + 2 + n) × (Starts ps n))
-        → (n : ℕ) × (o ≡ at + n) × (Starts (value (Relocatable a) ∷ ps) n)
+    go : (o ≡ at) ⊎ List·Memᴰ o (fieldsFrom (at + 2) ps) → (List·Memᴰ o (fieldsFrom (at + 2) ps) → (n : ℕ) × (o ≡ at + 2 + n) × (FieldAt ps n))
+        → (n : ℕ) × (o ≡ at + n) × (FieldAt (value (Relocatable a) ∷ ps) n)
     go (inl e) ih = (0, omega arith, record { before = []; place = a; behind = ps; pieces = refl; bytes = refl })
     go (inr m) ih =
         let (n, e, x) = ih m in
@@ -85,16 +85,16 @@ starts-listed (value (Absolute v) ∷ ps) a behind at = Memᴰ·cast (omega arit
 starts-listed (value (Relocatable v) ∷ ps) a behind at = List·Memᴰ·tail (Memᴰ·cast (omega arith) (starts-listed ps a behind (at + 2)))
 
 -- an offset is listed if and only if a relocatable value starts there
-pub fields-exact : (ps : List Piece) (o : ℕ) → List·Memᴰ o (fieldsOf ps) ↔ Starts ps o
+pub fields-exact : (ps : List Piece) (o : ℕ) → List·Memᴰ o (fieldsOf ps) ↔ FieldAt ps o
 fields-exact ps o = (there, back)
   where
-    there : List·Memᴰ o (fieldsOf ps) → Starts ps o
+    there : List·Memᴰ o (fieldsOf ps) → FieldAt ps o
     there h =
         let (n, e, x) = listed-starts ps 0 o h in
         let f : n ≡ o = omega arith in
-        subst (Starts ps) f x
+        subst (FieldAt ps) f x
 
-    back : Starts ps o → List·Memᴰ o (fieldsOf ps)
+    back : FieldAt ps o → List·Memᴰ o (fieldsOf ps)
     back x =
         let e = x .bytes in
         rw (x .pieces) (Memᴰ·cast (omega arith) (starts-listed (x .before) (x .place) (x .behind) 0))
@@ -255,7 +255,7 @@ module _ (look : ℕ → Entry) (a : State) (r : Record) where
 module _ (ss : List (List ℕ)) (n : ℕ) (b : Book) (h : assembled ss ≡ made n b) where
   -- "one record for each card that makes at least one byte": a record stands in the book if and only if it is that of such a card
   pub records-exact : (r : Record)
-      → List·Memᴰ r (b .records) ↔ ((k : ℕ) × (k < length ss) × (1 ≤ makes (getD ss k [])) × (r ≡ recordAt ss k))
+      → List·Memᴰ r (b .records) ↔ ((k : ℕ) × (k < length ss) × (1 ≤ makes (getD ss k [])) × (r ≡ cardRecord ss k))
   unfolding bookFrom
   records-exact r = (there, back)
     where
@@ -268,23 +268,23 @@ module _ (ss : List (List ℕ)) (n : ℕ) (b : Book) (h : assembled ss ≡ made 
       are : b .records ≡ recordsFrom (lookIn ss) 1 outset ss
       are = ap (λ (x : Book). x .records) (p .book) ∙ ap (λ look. recordsFrom look 1 outset ss) (sym all)
 
-      is : (k : ℕ) → recordOf (1 + k) (counterTwo ss k) (piecesAt ss k) ≡ recordAt ss k
+      is : (k : ℕ) → recordOf (1 + k) (counterTwo ss k) (piecesAt ss k) ≡ cardRecord ss k
       is k =
           let m : 1 + k ≡ suc k = omega arith in
           ap (λ x. recordOf x (counterTwo ss k) (piecesAt ss k)) m ∙ ap (λ x. recordOf (suc k) x (piecesAt ss k)) (same-counters ss (p .end) (p .one) k)
 
-      there : List·Memᴰ r (b .records) → (k : ℕ) × (k < length ss) × (1 ≤ makes (getD ss k [])) × (r ≡ recordAt ss k)
+      there : List·Memᴰ r (b .records) → (k : ℕ) × (k < length ss) × (1 ≤ makes (getD ss k [])) × (r ≡ cardRecord ss k)
       there m =
           let (k, l, some, e) = record-card (lookIn ss) (p .end) r ss 1 fresh outset (p .one) (subst (List·Memᴰ r) are m) in
           (k, l, some, e ∙ is k)
 
-      back : (k : ℕ) × (k < length ss) × (1 ≤ makes (getD ss k [])) × (r ≡ recordAt ss k) → List·Memᴰ r (b .records)
+      back : (k : ℕ) × (k < length ss) × (1 ≤ makes (getD ss k [])) × (r ≡ cardRecord ss k) → List·Memᴰ r (b .records)
       back (k, l, some, e) =
           subst (List·Memᴰ r) (sym are) (card-record (lookIn ss) (p .end) r ss 1 fresh outset (p .one) (k, l, some, e ∙ sym (is k)))
 
   -- the field list of each card's record: exactly the offsets at which a relocatable value of its text starts, ascending by at least 2, so each once
   pub card-fields : (k : ℕ) → k < length ss → 1 ≤ makes (getD ss k [])
       → (r : Record) × (List·Memᴰ r (b .records)) × (r .card ≡ suc k) × (r .address ≡ counterOne ss k) × (r .text ≡ textOf (piecesAt ss k))
-      × ((o : ℕ) → List·Memᴰ o (r .fields) ↔ Starts (piecesAt ss k) o) × (fieldsFit 0 (length (r .text)) (r .fields) ≡ true)
+      × ((o : ℕ) → List·Memᴰ o (r .fields) ↔ FieldAt (piecesAt ss k) o) × (fieldsFit 0 (length (r .text)) (r .fields) ≡ true)
   card-fields k l some =
-      (recordAt ss k, records-exact (recordAt ss k) .1 (k, l, some, refl), refl, refl, refl, fields-exact (piecesAt ss k), fields-ascend (piecesAt ss k))
+      (cardRecord ss k, records-exact (cardRecord ss k) .1 (k, l, some, refl), refl, refl, refl, fields-exact (piecesAt ss k), fields-ascend (piecesAt ss k))

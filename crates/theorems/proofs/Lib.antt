@@ -15,6 +15,7 @@ pub mod Sums
 pub mod Fields
 pub mod Untouched
 pub mod Stored
+pub mod Judged
 pub mod ToldOnce
 mod RaisedOperands
 mod RaisedStatements

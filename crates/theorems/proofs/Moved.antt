@@ -27,13 +27,13 @@ use Rattle.load.specs.Load.{judged, loading}
 use Rattle.passes.proofs.Counter.{start-fits}
 use Rattle.theorems.specs.Fields.{Apart}
 use Rattle.theorems.specs.Raised.{raisedState}
-use Rattle.theorems.specs.Moved.{raisedEntry, movedRecord, movedBook, Starting, SameButStart}
+use Rattle.theorems.specs.Moved.{movedEntry, movedRecord, movedBook, Starting, SameButStart}
 use Rattle.theorems.proofs.Made.{both-passed}
 use Rattle.theorems.proofs.Readable.{entry-fits, loaded-as-made}
 use Rattle.theorems.proofs.Fields.{other-bytes}
 use Rattle.theorems.proofs.RaisedOne.{AllUsual, pass-usual, pass-raised}
 use Rattle.theorems.proofs.RaisedTwo.{records-raised, entries-raised}
-use Rattle.theorems.proofs.RaisedLoad.{Raised, records-moved, judged-same}
+use Rattle.theorems.proofs.RaisedLoad.{RecordsRaised, records-moved, judged-same}
 use Rattle.theorems.proofs.Started.{AllComments, behind, begunOne, begunTwo, only-comments, one-behind, two-behind, records-behind, entry-behind}
 
 begun-raised : (d name at : ℕ) → begunOne name (at + d) ≡ raisedState d (begunOne name at)
@@ -69,8 +69,8 @@ module _ (d : ℕ) (before after : List (List ℕ)) (s t : List ℕ) (name at : 
   usual = pass-usual after next (begunOne name at) a tt from
 
   deck-raised : checkTwo (find (a .names)) 1 outset (before ++ s ∷ after) ≡ Clean → checkTwo (find (e .names)) 1 outset (before ++ t ∷ after) ≡ Clean
-      → (e .names ≡ up) × (Raised d (recordsFrom (find (a .names)) 1 outset (before ++ s ∷ after)) (recordsFrom (find (e .names)) 1 outset (before ++ t ∷ after)))
-      × (entryFrom (find (e .names)) outset (before ++ t ∷ after) ≡ raisedEntry d (entryFrom (find (a .names)) outset (before ++ s ∷ after)))
+      → (e .names ≡ up) × (RecordsRaised d (recordsFrom (find (a .names)) 1 outset (before ++ s ∷ after)) (recordsFrom (find (e .names)) 1 outset (before ++ t ∷ after)))
+      × (entryFrom (find (e .names)) outset (before ++ t ∷ after) ≡ movedEntry d (entryFrom (find (a .names)) outset (before ++ s ∷ after)))
   deck-raised clean clean′ =
       let names : e .names ≡ up = ap (λ (x : State). x .names) end-raised in
       let lower = two-behind before s after name at starts comments (find (a .names)) clean in
@@ -91,7 +91,7 @@ displacement-fits d ss ts same =
 
 -- THE THEOREM, of two such decks that are both accepted
 module _ (d : ℕ) (ss ts : List (List ℕ)) (same : SameButStart d ss ts) (n m : ℕ) (b c : Book) (accepted : assembled ss ≡ made n b) (accepted′ : assembled ts ≡ made m c) where
-  deck-books : (m ≡ n) × (Raised d (b .records) (c .records)) × (c .entry ≡ raisedEntry d (b .entry))
+  deck-books : (m ≡ n) × (RecordsRaised d (b .records) (c .records)) × (c .entry ≡ movedEntry d (b .entry))
   unfolding bookFrom
   deck-books =
       let x = both-passed ss n b accepted in

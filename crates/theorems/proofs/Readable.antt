@@ -160,10 +160,10 @@ read-whole s b is d m h = go (load s d m)
   where
     go : Load s d m → ⊥
     go (isBroken f e) = let z : _≡_ {A = ℕ} 0 1 = cc in omega arith
-    go (isOutside b f e) = let z : _≡_ {A = ℕ} 0 1 = cc in omega arith
-    go (isOver b f e) = let z : _≡_ {A = ℕ} 0 1 = cc in omega arith
-    go (isEntryOver b f e) = let z : _≡_ {A = ℕ} 0 1 = cc in omega arith
-    go (isStored b f i u to l e) = let z : _≡_ {A = ℕ} 0 1 = cc in omega arith
+    go (isOutside b f n e) = let z : _≡_ {A = ℕ} 0 1 = cc in omega arith
+    go (isOver b f i n e) = let z : _≡_ {A = ℕ} 0 1 = cc in omega arith
+    go (isEntryOver b f i u o e) = let z : _≡_ {A = ℕ} 0 1 = cc in omega arith
+    go (isStored b f i u o to x l e) = let z : _≡_ {A = ℕ} 0 1 = cc in omega arith
 
 -- THE THEOREM, of an accepted source: at most 4,000 cards, a count of names and a book
 

@@ -58,10 +58,10 @@ module _ (s : List ℕ) (d : Displacement) (m : List ℕ) where
     where
       go : Load s d m → getD (loaded .storage) (r .address + d .0 + i) 0 ≡ getD (movedText (d .0) r) i 0
       go (isBroken f e) = let z : _≡_ {A = ℕ} 0 1 = cc in absurd (omega arith)
-      go (isOutside c f e) = let z : _≡_ {A = ℕ} 0 1 = cc in absurd (omega arith)
-      go (isOver c f e) = let z : _≡_ {A = ℕ} 0 1 = cc in absurd (omega arith)
-      go (isEntryOver c f e) = let z : _≡_ {A = ℕ} 0 1 = cc in absurd (omega arith)
-      go (isStored c f j u w l e) =
+      go (isOutside c f n e) = let z : _≡_ {A = ℕ} 0 1 = cc in absurd (omega arith)
+      go (isOver c f i n e) = let z : _≡_ {A = ℕ} 0 1 = cc in absurd (omega arith)
+      go (isEntryOver c f i u o e) = let z : _≡_ {A = ℕ} 0 1 = cc in absurd (omega arith)
+      go (isStored c f j u o w x l e) =
           let same : c ≡ b = cc in
           let are : c .records ≡ before ++ r ∷ later = ap (λ (x : Book). x .records) same ∙ rs in
           ap (λ (x : Outcome). getD (x .storage) (r .address + d .0 + i) 0) e

@@ -28,7 +28,7 @@ use Rattle.mersclund.specs.Packed.{packedEntry, packedLoad, packedAssembled}
 use Rattle.theorems.specs.Sums.{total, recordLength}
 use Rattle.theorems.specs.ToldOnce.{Loads, Assembles, Prints}
 use Rattle.theorems.proofs.Made.{both-passed}
-use Rattle.theorems.proofs.Numbers.{cards-number}
+use Rattle.theorems.proofs.Numbers.{cards-range}
 use Rattle.theorems.proofs.Sums.{record-length, book-length}
 use Rattle.theorems.proofs.Readable.{fair-records}
 use Rattle.theorems.proofs.Called.{Way, way}
@@ -90,10 +90,10 @@ load-fits s d m = go (load s d m)
 
     go : Load s d m → Fits (loading s d m .answer)
     go (isBroken f e) = is Broken (ap (λ (x : Outcome). x .answer) e) tt
-    go (isOutside b f e) = is (Outside _) (ap (λ (x : Outcome). x .answer) e) (first-low _ (b .records) 0 (read-fair s b f))
-    go (isOver b f e) = is (Over _) (ap (λ (x : Outcome). x .answer) e) (first-low _ (b .records) 0 (read-fair s b f))
-    go (isEntryOver b f e) = is (Over 0) (ap (λ (x : Outcome). x .answer) e) (omega arith)
-    go (isStored b f i u at l e) =
+    go (isOutside b f n e) = is (Outside _) (ap (λ (x : Outcome). x .answer) e) (first-low _ (b .records) 0 (read-fair s b f))
+    go (isOver b f i n e) = is (Over _) (ap (λ (x : Outcome). x .answer) e) (first-low _ (b .records) 0 (read-fair s b f))
+    go (isEntryOver b f i u o e) = is (Over 0) (ap (λ (x : Outcome). x .answer) e) (omega arith)
+    go (isStored b f i u o at x l e) =
         let low = stored-low (b .records) 0 (read-fair s b f) (omega arith) in
         is (Stored (bytesStored (b .records)) at) (ap (λ (x : Outcome). x .answer) e) (omega arith, l)
 
@@ -168,7 +168,7 @@ assemble-fits width source work out = go (way width source work out)
     go : Way width source work out → FitsIn (assembling width source work out .answer)
     go (atOnce n l u e) = is (Refused n 0) (ap (λ (x : AssemblyOutcome). x .answer) e) (l, omega arith, omega arith)
     go (byCards w few n k f e) =
-        let r = cards-number (cardsOf width source) n k f in
+        let r = cards-range (cardsOf width source) n k f in
         is (Refused n k) (ap (λ (x : AssemblyOutcome). x .answer) e) (omega arith, omega arith, omega arith)
     go (tooLong w n b f l e) = is (Refused 30 0) (ap (λ (x : AssemblyOutcome). x .answer) e) (omega arith, omega arith, omega arith)
     go (whole w n b few f l e) =
