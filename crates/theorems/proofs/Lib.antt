@@ -16,6 +16,7 @@ pub mod Fields
 pub mod Untouched
 pub mod Stored
 pub mod Judged
+pub mod Accepted
 pub mod ToldOnce
 mod RaisedOperands
 mod RaisedStatements

@@ -27,6 +27,7 @@ use Rattle.load.specs.Load.{judged, loading}
 use Rattle.passes.proofs.Counter.{start-fits}
 use Rattle.theorems.specs.Fields.{Apart}
 use Rattle.theorems.specs.Raised.{raisedState}
+use Rattle.fields.proofs.Laws.{moved-length}
 use Rattle.theorems.specs.Moved.{movedEntry, movedRecord, movedBook, Starting, SameButStart}
 use Rattle.theorems.proofs.Made.{both-passed}
 use Rattle.theorems.proofs.Readable.{entry-fits, loaded-as-made}
@@ -121,12 +122,13 @@ module _ (d : ℕ) (ss ts : List (List ℕ)) (same : SameButStart d ss ts) (n m 
       rw (deck-books .2) (judged-same d (b .records) (c .records) (deck-books .1) storage (b .entry) (rw (deck-books .2) at fits))
 
   -- "every other byte of its text is the same at every start value": each record of the first book is there in the second, of the same card,
-  -- and a byte of its text that is in no listed field is the same
+  -- with a text of the same length, and a byte of its text that is in no listed field is the same
   pub other-bytes-stay : (r : Record) → List·Memᴰ r (b .records)
-      → (q : Record) × (List·Memᴰ q (c .records)) × (q .card ≡ r .card) × (q .fields ≡ r .fields) × ((i : ℕ) → Apart i (r .fields) → getD (q .text) i 0 ≡ getD (r .text) i 0)
+      → (q : Record) × (List·Memᴰ q (c .records)) × (q .card ≡ r .card) × (q .fields ≡ r .fields) × (length (q .text) ≡ length (r .text))
+      × ((i : ℕ) → Apart i (r .fields) → getD (q .text) i 0 ≡ getD (r .text) i 0)
   other-bytes-stay r h =
       let here = subst (List·Memᴰ (movedRecord d r)) (sym (ap (λ (x : Book). x .records) book-raised)) (Memᴰ·map (movedRecord d) h) in
-      (movedRecord d r, here, refl, refl, other-bytes d r)
+      (movedRecord d r, here, refl, refl, moved-length d (r .text) (r .fields) (r .text), other-bytes d r)
 
 -- THE SAME OF THE BOOKS' BYTES, where there are at most 4,000 cards
 pub moved-is-raised : (d : ℕ) (ss ts : List (List ℕ)) → SameButStart d ss ts → length ss ≤ 4000 → (n m : ℕ) (b c : Book)
