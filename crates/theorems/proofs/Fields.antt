@@ -1,4 +1,4 @@
--- FIELDS. "count of relocatable fields .. their offsets, ascending": for every card of an accepted source the list holds exactly the places of its two-byte values
+-- FIELDS (demand 3). "count of relocatable fields .. their offsets, ascending by at least 2": for every card of an accepted source the list holds exactly the places of its two-byte values
 -- that are relocatable, each once ("Empty field lists satisfy "no other place" but not "each once""); every other byte of its text stays what it is.
 use Prim.Native.Nat.{ℕ, zero, suc, _+_, _≤_, _<_}
 use mathlib.Core.List.{List, [], _∷_, _++_, map, List·Memᴰ, List·Memᴰ·cases-cons, List·Memᴰ·not-nil, Memᴰ·cast}

@@ -1,4 +1,4 @@
--- THE PASSES AGREE. "EQU and ORG use only names defined on earlier cards", and names only grow, so pass two finds there what pass one found:
+-- THE PASSES AGREE (demand 2). "EQU and ORG use only names defined on earlier cards", and names only grow, so pass two finds there what pass one found:
 -- it refuses no EQU and no ORG, and its counter before every card is pass one's.
 use Prim.Native.Nat.{ℕ, zero, suc, _+_, _≤_, _<_}
 use mathlib.Core.List.{List, [], _∷_}

@@ -1,6 +1,7 @@
--- REFUSED EXACTLY WHEN, of a load (demand 1): "Loading: 50, 51, 52, each over the whole book before the next", each with the card of the first record that fails.
-use Prim.Native.Nat.{ℕ, _≤_}
-use mathlib.Core.List.{List, [], _∷_, _++_, List·Memᴰ, List·Memᴰ·cases-cons, List·Memᴰ·not-nil}
+-- REFUSED EXACTLY WHEN, of a load (demand 1): "Loading: 50, 51, 52, each over the whole book before the next".
+-- "51 and 52 give the card of the first such record; 52 for the entry alone gives 0."
+use Prim.Native.Nat.{ℕ}
+use mathlib.Core.List.{List, [], _∷_, List·Memᴰ, List·Memᴰ·cases-cons, List·Memᴰ·not-nil}
 use mathlib.Core.List.List·Memᴰ.{List·Memᴰ·head, List·Memᴰ·tail}
 use mathlib.Core.Bool.{Bool, true, false}
 use mathlib.Core.Option.{none, some}

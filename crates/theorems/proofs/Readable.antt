@@ -1,4 +1,5 @@
--- READABLE. "The book": the book of an accepted source keeps the layout; reading its bytes gives its entry, its records and nothing else;
+-- READABLE (demand 2): "loading puts exactly those bytes into storage". The book of an accepted source keeps the layout; reading its bytes gives its entry,
+-- its records and nothing else ("Nothing follows");
 -- so loading it is never refused by 50.
 use Prim.Native.Nat.{ℕ, _+_, _≤_, _<_}
 use mathlib.Core.List.{List, [], _∷_}

@@ -1,5 +1,5 @@
--- SUMS. "An accepted assembly returns the book's length and the count of names"; loading answers with "the bytes stored, overlaid ones counted each time":
--- each is a sum over cards or records.
+-- SUMS (demand 2): "so are invented byte and name counts, since each is a sum over cards or records".
+-- "An accepted assembly returns the book's length and the count of names"; loading answers with "the bytes stored, overlaid ones counted each time".
 use Prim.Native.Nat.{ℕ, _+_}
 use mathlib.Core.List.{List, [], _∷_, _++_}
 use mathlib.Core.Bool.{Bool, true, false}

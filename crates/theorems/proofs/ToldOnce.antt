@@ -1,4 +1,4 @@
--- TOLD ONCE. "For every input the contract determines the entire reply and each lent byte afterwards. Where two replies would satisfy it, they are shown equal":
+-- TOLD ONCE (demand 1). "For every input the contract determines the entire reply and each lent byte afterwards. Where two replies would satisfy it, they are shown equal":
 -- two replies that meet a public contract are the same. And packing is one to one: two different answers are never packed to the same number.
 use Prim.{Unit, tt}
 use Prim.Native.Nat.{ℕ, _+_, _*_, _^_, _≤_, _<_}

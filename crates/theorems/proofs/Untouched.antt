@@ -1,4 +1,4 @@
--- REFUSED MEANS UNTOUCHED. Assembling: "Output past the book is unchanged; all of it is on a refusal. The first 8,192 bytes of the work area are zero after every answer
+-- REFUSED MEANS UNTOUCHED (demand 1). Assembling: "Output past the book is unchanged; all of it is on a refusal. The first 8,192 bytes of the work area are zero after every answer
 -- but 1, 2 and 3, which leave it untouched; bytes beyond them never change." Loading: a refusal stores nothing; "Storage counts up to 65,536 bytes".
 -- Printing: "writes REFUSED 50 and nothing else".
 use Prim.Native.Nat.{ℕ, _+_, _≤_, _<_}
@@ -134,7 +134,7 @@ module _ (width : ℕ) (source work out : List ℕ) where
       go (tooLong w n b f l e) = ap (λ (x : Outcome). length (x .work)) e ∙ zeroed-length workSize work w
       go (whole w n b few f l e) = ap (λ (x : Outcome). length (x .work)) e ∙ zeroed-length workSize work w
 
-  -- "Numbers of refusal": 1 to 3 with card 0; 9 to 24 with a card of the source; 9 with card 0, where there is no END; 30 with card 0
+  -- "A refusal returns its number and the card, 0 for 1, 2, 3, 30, 50 and no END": 9 to 24 with a card of the source, 9 with card 0 where there is no END
   abbrev pub Refusal : ℕ → ℕ → Type 0
   Refusal number card =
       ((1 ≤ number) × (number ≤ 3) × (card ≡ 0)) ⊎ (((9 ≤ number) × (number ≤ 24) × (1 ≤ card) × (card ≤ length (cardsOf width source)))

@@ -1,4 +1,4 @@
--- How the records of a book are judged before a load: "51 .. 52, each over the whole book before the next", with the card of the first record that fails.
+-- How the records of a book are judged before a load: "51 and 52 give the card of the first such record; 52 for the entry alone gives 0".
 use Prim.Native.Nat.{ℕ, _+_}
 use mathlib.Core.List.{List, _∷_, _++_, List·Memᴰ}
 use mathlib.Core.Bool.{Bool, true, false}
