@@ -1,15 +1,19 @@
--- FIELDS. "count of relocatable fields .. their offsets, ascending": for every card of an accepted source the list holds exactly the places of its two-byte values
+-- FIELDS (demand 3). "count of relocatable fields .. their offsets, ascending by at least 2": for every card of an accepted source the list holds exactly the places of its two-byte values
 -- that are relocatable, each once ("Empty field lists satisfy "no other place" but not "each once""); every other byte of its text stays what it is.
 use Prim.Native.Nat.{ℕ, zero, suc, _+_, _≤_, _<_}
 use mathlib.Core.List.{List, [], _∷_, _++_, map, List·Memᴰ, List·Memᴰ·cases-cons, List·Memᴰ·not-nil, Memᴰ·cast}
 use mathlib.Core.List.List·Memᴰ.{List·Memᴰ·head, List·Memᴰ·tail}
-use mathlib.Core.Bool.{true}
+use mathlib.Core.Bool.{Bool, true, false}
 use mathlib.Core.Path.{_≡_, refl, sym, ap, _∙_, subst}
 use mathlib.Core.Logic.{_⊎_, inl, inr, _↔_}
 use native.Mathlib.Nat.{add-zero}
 use native.Mathlib.Omega.{arith}
 use lib.ListN.{length, getD}
-use lib.Seq.{sets}
+use lib.Dec.{leb, ltb}
+use lib.Seq.{sets, length-sets}
+use borrow.Author.Tests.{leb-true, ltb-false}
+use Rattle.values.specs.Tests.{either}
+use Rattle.values.proofs.Laws.{both-true}
 use Rattle.values.specs.declared.Value.{Value}
 use Rattle.values.specs.declared.Relocatable.{Relocatable as Place}
 use Rattle.values.specs.declared.Value.the-variants.{Absolute, Relocatable}
@@ -19,7 +23,7 @@ use Rattle.names.specs.Names.{find}
 use Rattle.book.specs.Book.{Record, Book, fieldsFit}
 use Rattle.encode.specs.Pieces.{Piece, textOf, fieldsFrom, fieldsOf}
 use Rattle.encode.specs.Pieces.Piece.{plain, value}
-use Rattle.fields.specs.Fields.{movedIn, movedText}
+use Rattle.fields.specs.Fields.{movedIn, movedText, overIn, overField}
 use Rattle.passes.specs.declared.Course.{Course}
 use Rattle.passes.specs.One.{State, fresh, stepOne, passOne}
 use Rattle.passes.specs.One.Passed.{through}
@@ -29,31 +33,31 @@ use Rattle.passes.specs.Assembly.Result.{made}
 use Rattle.passes.proofs.Turns.{pass-turn}
 use Rattle.theorems.specs.Grow.{behindTwo, namesBy, lookIn, counterOne, counterTwo}
 use Rattle.theorems.specs.Readable.{makes}
-use Rattle.theorems.specs.Fields.{piecesAt, recordAt, Starts, Apart}
+use Rattle.theorems.specs.Fields.{piecesAt, cardRecord, FieldAt, Apart}
 use Rattle.theorems.specs.Raised.{raisedPiece}
 use Rattle.theorems.proofs.RaisedText.{moved-pieces}
 use Rattle.theorems.proofs.Grow.{same-counters}
 use Rattle.theorems.proofs.Texts.{card-makes, fields-fit, some-text}
 use Rattle.theorems.proofs.Made.{Both, both-passed}
-use Rattle.theorems.proofs.Stores.{sets-other}
+use Rattle.theorems.proofs.Stores.{sets-other, sets-there}
 
 -- THE OFFSETS OF PIECES
 
 -- a piece more in front: a plain byte, a value
-behind-plain : (b : ℕ) (ps : List Piece) (n : ℕ) → Starts ps n → Starts (plain b ∷ ps) (n + 1)
+behind-plain : (b : ℕ) (ps : List Piece) (n : ℕ) → FieldAt ps n → FieldAt (plain b ∷ ps) (n + 1)
 unfolding textOf
 behind-plain b ps n x =
     let e = x .bytes in
     record { before = plain b ∷ x .before; place = x .place; behind = x .behind; pieces = ap (λ l. plain b ∷ l) (x .pieces); bytes = omega arith }
 
-behind-value : (v : Value) (ps : List Piece) (n : ℕ) → Starts ps n → Starts (value v ∷ ps) (n + 2)
+behind-value : (v : Value) (ps : List Piece) (n : ℕ) → FieldAt ps n → FieldAt (value v ∷ ps) (n + 2)
 unfolding textOf
 behind-value v ps n x =
     let e = x .bytes in
     record { before = value v ∷ x .before; place = x .place; behind = x .behind; pieces = ap (λ l. value v ∷ l) (x .pieces); bytes = omega arith }
 
 -- at every offset that is listed a relocatable value starts
-listed-starts : (ps : List Piece) (at o : ℕ) → List·Memᴰ o (fieldsFrom at ps) → (n : ℕ) × (o ≡ at + n) × (Starts ps n)
+listed-starts : (ps : List Piece) (at o : ℕ) → List·Memᴰ o (fieldsFrom at ps) → (n : ℕ) × (o ≡ at + n) × (FieldAt ps n)
 unfolding fieldsFrom textOf
 listed-starts [] at o h = absurd (List·Memᴰ·not-nil h)
 listed-starts (plain b ∷ ps) at o h =
@@ -64,8 +68,8 @@ listed-starts (value (Absolute a) ∷ ps) at o h =
     (n + 2, omega arith, behind-value (Absolute a) ps n x)
 listed-starts (value (Relocatable a) ∷ ps) at o h = go (List·Memᴰ·cases-cons h) (listed-starts ps (at + 2) o)
   where
-    go : (o ≡ at) ⊎ List·Memᴰ o (fieldsFrom (at + 2) ps) → (List·Memᴰ o (fieldsFrom (at + 2) ps) → (n : ℕ) × (o ≡ at + 2 + n) × (Starts ps n))
-        → (n : ℕ) × (o ≡ at + n) × (Starts (value (Relocatable a) ∷ ps) n)
+    go : (o ≡ at) ⊎ List·Memᴰ o (fieldsFrom (at + 2) ps) → (List·Memᴰ o (fieldsFrom (at + 2) ps) → (n : ℕ) × (o ≡ at + 2 + n) × (FieldAt ps n))
+        → (n : ℕ) × (o ≡ at + n) × (FieldAt (value (Relocatable a) ∷ ps) n)
     go (inl e) ih = (0, omega arith, record { before = []; place = a; behind = ps; pieces = refl; bytes = refl })
     go (inr m) ih =
         let (n, e, x) = ih m in
@@ -81,16 +85,16 @@ starts-listed (value (Absolute v) ∷ ps) a behind at = Memᴰ·cast (omega arit
 starts-listed (value (Relocatable v) ∷ ps) a behind at = List·Memᴰ·tail (Memᴰ·cast (omega arith) (starts-listed ps a behind (at + 2)))
 
 -- an offset is listed if and only if a relocatable value starts there
-pub fields-exact : (ps : List Piece) (o : ℕ) → List·Memᴰ o (fieldsOf ps) ↔ Starts ps o
+pub fields-exact : (ps : List Piece) (o : ℕ) → List·Memᴰ o (fieldsOf ps) ↔ FieldAt ps o
 fields-exact ps o = (there, back)
   where
-    there : List·Memᴰ o (fieldsOf ps) → Starts ps o
+    there : List·Memᴰ o (fieldsOf ps) → FieldAt ps o
     there h =
         let (n, e, x) = listed-starts ps 0 o h in
         let f : n ≡ o = omega arith in
-        subst (Starts ps) f x
+        subst (FieldAt ps) f x
 
-    back : Starts ps o → List·Memᴰ o (fieldsOf ps)
+    back : FieldAt ps o → List·Memᴰ o (fieldsOf ps)
     back x =
         let e = x .bytes in
         rw (x .pieces) (Memᴰ·cast (omega arith) (starts-listed (x .before) (x .place) (x .behind) 0))
@@ -115,6 +119,70 @@ other-bytes d r i apart = moved-other d (r .text) (r .fields) (r .text) i apart
 -- .. and where every value among the pieces is raised by d, a plain byte and an absolute value keep their bytes
 pub raised-other : (d : ℕ) (ps : List Piece) (i : ℕ) → Apart i (fieldsOf ps) → getD (textOf (map (raisedPiece d) ps)) i 0 ≡ getD (textOf ps) i 0
 raised-other d ps i apart = ap (λ t. getD t i 0) (sym (moved-pieces d ps)) ∙ moved-other d (textOf ps) (fieldsOf ps) (textOf ps) i apart
+
+-- EACH LISTED FIELD
+
+-- offsets that fit are no lower than the least
+fields-above : (least size : ℕ) (os : List ℕ) → fieldsFit least size os ≡ true → (o : ℕ) → List·Memᴰ o os → least ≤ o
+unfolding fieldsFit
+fields-above least size [] e o m = absurd (List·Memᴰ·not-nil m)
+fields-above least size (p ∷ os) e o m =
+    let (low, rest) = both-true (leb least p) _ e in
+    let (inside, others) = both-true (leb (p + 2) size) _ rest in
+    let a = leb-true least p low in
+    go a (fields-above (p + 2) size os others o) (List·Memᴰ·cases-cons m)
+  where
+    go : least ≤ p → (List·Memᴰ o os → p + 2 ≤ o) → (o ≡ p) ⊎ List·Memᴰ o os → least ≤ o
+    go a ih (inl e) = omega arith
+    go a ih (inr x) = let b = ih x in omega arith
+
+-- a value of two bytes, read where it was put
+word-there : (t : List ℕ) (o n : ℕ) → o + 2 ≤ length t → n ≤ 65535 → word (sets t o (twoBytes n)) o ≡ n
+unfolding word
+word-there t o n room low =
+    let here : o + 0 ≡ o = omega arith in
+    let high = ap (λ i. getD (sets t o (twoBytes n)) i 0) (sym here) ∙ sets-there t o (twoBytes n) 0 (omega arith) (omega arith) in
+    let next = sets-there t o (twoBytes n) 1 (omega arith) (omega arith) in
+    omega arith
+
+-- a field that lies below the others, once it is put, stays
+first-field : (d : ℕ) (was os t : List ℕ) (p size n : ℕ) → fieldsFit (p + 2) size os ≡ true → p + 2 ≤ length t → n ≤ 65535
+    → word (movedIn d was os (sets t p (twoBytes n))) p ≡ n
+unfolding word
+first-field d was os t p size n others room low =
+    let a = moved-other d was os (sets t p (twoBytes n)) p (apart p (omega arith)) in
+    let b = moved-other d was os (sets t p (twoBytes n)) (p + 1) (apart (p + 1) (omega arith)) in
+    let c = word-there t p n room low in
+    omega arith
+  where
+    apart : (i : ℕ) → i < p + 2 → Apart i os
+    apart i h q x = let a = fields-above (p + 2) size os others q x in inl (omega arith)
+
+moved-field : (d : ℕ) (was os t : List ℕ) (least size : ℕ) → fieldsFit least size os ≡ true → size ≤ length t → overIn d was os ≡ false
+    → (o : ℕ) → List·Memᴰ o os → word (movedIn d was os t) o ≡ word was o + d
+unfolding fieldsFit movedIn overIn
+moved-field d was [] t least size e room u o m = absurd (List·Memᴰ·not-nil m)
+moved-field d was (p ∷ os) t least size e room u o m =
+    let (low, rest) = both-true (leb least p) _ e in
+    let (inside, others) = both-true (leb (p + 2) size) _ rest in
+    let ends = leb-true (p + 2) size inside in
+    let same = length-sets t p (twoBytes (word was p + d)) in
+    go others (omega arith) (ltb 65535 (word was p + d)) refl u (moved-field d was os put (p + 2) size others (omega arith)) (List·Memᴰ·cases-cons m)
+  where
+    put : List ℕ
+    put = sets t p (twoBytes (word was p + d))
+
+    go : fieldsFit (p + 2) size os ≡ true → p + 2 ≤ length t → (b : Bool) → ltb 65535 (word was p + d) ≡ b → either b (overIn d was os) ≡ false
+        → (overIn d was os ≡ false → (o : ℕ) → List·Memᴰ o os → word (movedIn d was os put) o ≡ word was o + d)
+        → (o ≡ p) ⊎ List·Memᴰ o os → word (movedIn d was os put) o ≡ word was o + d
+    go others inside true q u ih m = let z : _≡_ {A = ℕ} 0 1 = cc in absurd (omega arith)
+    go others inside false q u ih (inl e) = rw e (first-field d was os t p size (word was p + d) others inside (ltb-false 65535 (word was p + d) q))
+    go others inside false q u ih (inr x) = ih u o x
+
+-- the displacement is added to each listed field
+pub field-moved : (d : ℕ) (r : Record) → fieldsFit 0 (length (r .text)) (r .fields) ≡ true → overField d r ≡ false
+    → (o : ℕ) → List·Memᴰ o (r .fields) → word (movedText d r) o ≡ word (r .text) o + d
+field-moved d r fit u o m = moved-field d (r .text) (r .fields) (r .text) 0 (length (r .text)) fit (omega arith) u o m
 
 -- THE RECORDS OF THE CARDS
 
@@ -187,7 +255,7 @@ module _ (look : ℕ → Entry) (a : State) (r : Record) where
 module _ (ss : List (List ℕ)) (n : ℕ) (b : Book) (h : assembled ss ≡ made n b) where
   -- "one record for each card that makes at least one byte": a record stands in the book if and only if it is that of such a card
   pub records-exact : (r : Record)
-      → List·Memᴰ r (b .records) ↔ ((k : ℕ) × (k < length ss) × (1 ≤ makes (getD ss k [])) × (r ≡ recordAt ss k))
+      → List·Memᴰ r (b .records) ↔ ((k : ℕ) × (k < length ss) × (1 ≤ makes (getD ss k [])) × (r ≡ cardRecord ss k))
   unfolding bookFrom
   records-exact r = (there, back)
     where
@@ -200,23 +268,23 @@ module _ (ss : List (List ℕ)) (n : ℕ) (b : Book) (h : assembled ss ≡ made 
       are : b .records ≡ recordsFrom (lookIn ss) 1 outset ss
       are = ap (λ (x : Book). x .records) (p .book) ∙ ap (λ look. recordsFrom look 1 outset ss) (sym all)
 
-      is : (k : ℕ) → recordOf (1 + k) (counterTwo ss k) (piecesAt ss k) ≡ recordAt ss k
+      is : (k : ℕ) → recordOf (1 + k) (counterTwo ss k) (piecesAt ss k) ≡ cardRecord ss k
       is k =
           let m : 1 + k ≡ suc k = omega arith in
           ap (λ x. recordOf x (counterTwo ss k) (piecesAt ss k)) m ∙ ap (λ x. recordOf (suc k) x (piecesAt ss k)) (same-counters ss (p .end) (p .one) k)
 
-      there : List·Memᴰ r (b .records) → (k : ℕ) × (k < length ss) × (1 ≤ makes (getD ss k [])) × (r ≡ recordAt ss k)
+      there : List·Memᴰ r (b .records) → (k : ℕ) × (k < length ss) × (1 ≤ makes (getD ss k [])) × (r ≡ cardRecord ss k)
       there m =
           let (k, l, some, e) = record-card (lookIn ss) (p .end) r ss 1 fresh outset (p .one) (subst (List·Memᴰ r) are m) in
           (k, l, some, e ∙ is k)
 
-      back : (k : ℕ) × (k < length ss) × (1 ≤ makes (getD ss k [])) × (r ≡ recordAt ss k) → List·Memᴰ r (b .records)
+      back : (k : ℕ) × (k < length ss) × (1 ≤ makes (getD ss k [])) × (r ≡ cardRecord ss k) → List·Memᴰ r (b .records)
       back (k, l, some, e) =
           subst (List·Memᴰ r) (sym are) (card-record (lookIn ss) (p .end) r ss 1 fresh outset (p .one) (k, l, some, e ∙ sym (is k)))
 
   -- the field list of each card's record: exactly the offsets at which a relocatable value of its text starts, ascending by at least 2, so each once
   pub card-fields : (k : ℕ) → k < length ss → 1 ≤ makes (getD ss k [])
       → (r : Record) × (List·Memᴰ r (b .records)) × (r .card ≡ suc k) × (r .address ≡ counterOne ss k) × (r .text ≡ textOf (piecesAt ss k))
-      × ((o : ℕ) → List·Memᴰ o (r .fields) ↔ Starts (piecesAt ss k) o) × (fieldsFit 0 (length (r .text)) (r .fields) ≡ true)
+      × ((o : ℕ) → List·Memᴰ o (r .fields) ↔ FieldAt (piecesAt ss k) o) × (fieldsFit 0 (length (r .text)) (r .fields) ≡ true)
   card-fields k l some =
-      (recordAt ss k, records-exact (recordAt ss k) .1 (k, l, some, refl), refl, refl, refl, fields-exact (piecesAt ss k), fields-ascend (piecesAt ss k))
+      (cardRecord ss k, records-exact (cardRecord ss k) .1 (k, l, some, refl), refl, refl, refl, fields-exact (piecesAt ss k), fields-ascend (piecesAt ss k))

@@ -1,7 +1,9 @@
--- THE PASSES AGREE. "EQU and ORG use only names defined on earlier cards", and names only grow, so pass two finds there what pass one found:
--- its second look at EQU and ORG refuses nothing, and its counter before every card is pass one's.
+-- THE PASSES AGREE (demand 2). "EQU and ORG use only names defined on earlier cards", and names only grow, so pass two finds there what pass one found:
+-- it refuses no EQU and no ORG, and its counter before every card is pass one's.
 use Prim.Native.Nat.{ℕ, zero, suc, _+_, _≤_, _<_}
 use mathlib.Core.List.{List, [], _∷_}
+use mathlib.Core.Bool.{Bool, true, false}
+use mathlib.Core.Logic.{_⊎_, inl, inr}
 use mathlib.Core.Path.{_≡_, refl, sym, ap, _∙_}
 use native.Mathlib.Omega.{arith}
 use lib.ListN.{length, getD}
@@ -41,13 +43,25 @@ use Rattle.passes.specs.declared.Course.{Course}
 use Rattle.passes.specs.Cards.{roleOf, operandsAt, counterBy, counterAfter}
 use Rattle.passes.specs.One.{State, fresh, earlyBy, earlyNo, readingNo, oneNo, readingStep, stepOne, passOne}
 use Rattle.passes.specs.One.Passed.{through}
-use Rattle.passes.specs.Two.{outset, readingTwoNo, twoNo, readingTwoStep, stepTwo, checkTwo}
+use Rattle.passes.specs.Two.{outset, readingTwoNo, twoNo, readingTwoStep, stepTwo}
 use Rattle.passes.proofs.Turns.{pass-turn}
 use Rattle.passes.proofs.Counter.{counter-most}
 use Rattle.passes.proofs.Fine.{Fine, fine, one-zero}
-use Rattle.theorems.specs.Grow.{Keeps, behindOne, behindTwo, namesBy, lookIn, counterOne, counterTwo, readingSize, cardSize, unlessSeen, readingUnseen, unseenNo, checkUnseen}
+use Rattle.theorems.specs.Grow.{Keeps, behindOne, behindTwo, namesBy, lookIn, counterOne, counterTwo, readingSize, cardSize}
 use Rattle.theorems.proofs.Lines.{equ-shape, org-shape}
 use Rattle.theorems.proofs.Kept.{value-kept, names-grow}
+
+-- "18 to 20 on EQU and ORG": pass one looks at their expressions
+abbrev early : Role → Bool
+early Starts = false
+early Equates = true
+early SetsCounter = true
+early Ends = false
+early Makes = false
+
+early-is : (r : Role) → (r ≡ Equates) ⊎ (r ≡ SetsCounter) → early r ≡ true
+early-is r (inl e) = ap early e
+early-is r (inr e) = ap early e
 
 -- A LINE
 
@@ -91,31 +105,31 @@ module _ (look more : ℕ → Entry) (keeps : Keeps look more) (here : ℕ) (o :
   unfolding operandsOf expressionsNo numberOf orElse codeOf placesNo
   org-again h bases = rw (same-value OnlyRelocatable 0 h, h)
 
-  same-number : (op : Operation) (x : Shape) → x ≡ shapeOf op o → shapeNo x ≡ 0 → earlyBy (roleOf op) op (operandsOf look here o x) ≡ 0 → (bases : Bases)
-      → numberOf op (operandsOf more here o x) here bases ≡ unlessSeen (roleOf op) (numberOf op (operandsOf more here o x) here bases)
-  same-number Unknown x e f h bases = refl
-  same-number Start x e f h bases = refl
-  same-number Equ x e f h bases =
+  seen-again : (op : Operation) (x : Shape) → x ≡ shapeOf op o → shapeNo x ≡ 0 → earlyBy (roleOf op) op (operandsOf look here o x) ≡ 0 → early (roleOf op) ≡ true → (bases : Bases)
+      → numberOf op (operandsOf more here o x) here bases ≡ 0
+  seen-again Unknown x e f h r bases = let z : _≡_ {A = ℕ} 0 1 = cc in absurd (omega arith)
+  seen-again Start x e f h r bases = let z : _≡_ {A = ℕ} 0 1 = cc in absurd (omega arith)
+  seen-again Equ x e f h r bases =
       let y : x ≡ Expression = e ∙ equ-shape o (ap shapeNo (sym e) ∙ f) in
       rw y (equ-again (rw y at h) bases)
-  same-number Org x e f h bases =
+  seen-again Org x e f h r bases =
       let y : x ≡ Expression = e ∙ org-shape o (ap shapeNo (sym e) ∙ f) in
       rw y (org-again (rw y at h) bases)
-  same-number Dc x e f h bases = refl
-  same-number Ds x e f h bases = refl
-  same-number Using x e f h bases = refl
-  same-number Drop x e f h bases = refl
-  same-number End x e f h bases = refl
-  same-number (Decimal low) x e f h bases = refl
-  same-number (Characters low) x e f h bases = refl
-  same-number Move x e f h bases = refl
-  same-number (MoveOf item) x e f h bases = refl
-  same-number (OneAddress low) x e f h bases = refl
-  same-number (Branch low) x e f h bases = refl
-  same-number LoadAddress x e f h bases = refl
-  same-number (BranchOn q) x e f h bases = refl
-  same-number Jump x e f h bases = refl
-  same-number (JumpOn q) x e f h bases = refl
+  seen-again Dc x e f h r bases = let z : _≡_ {A = ℕ} 0 1 = cc in absurd (omega arith)
+  seen-again Ds x e f h r bases = let z : _≡_ {A = ℕ} 0 1 = cc in absurd (omega arith)
+  seen-again Using x e f h r bases = let z : _≡_ {A = ℕ} 0 1 = cc in absurd (omega arith)
+  seen-again Drop x e f h r bases = let z : _≡_ {A = ℕ} 0 1 = cc in absurd (omega arith)
+  seen-again End x e f h r bases = let z : _≡_ {A = ℕ} 0 1 = cc in absurd (omega arith)
+  seen-again (Decimal low) x e f h r bases = let z : _≡_ {A = ℕ} 0 1 = cc in absurd (omega arith)
+  seen-again (Characters low) x e f h r bases = let z : _≡_ {A = ℕ} 0 1 = cc in absurd (omega arith)
+  seen-again Move x e f h r bases = let z : _≡_ {A = ℕ} 0 1 = cc in absurd (omega arith)
+  seen-again (MoveOf item) x e f h r bases = let z : _≡_ {A = ℕ} 0 1 = cc in absurd (omega arith)
+  seen-again (OneAddress low) x e f h r bases = let z : _≡_ {A = ℕ} 0 1 = cc in absurd (omega arith)
+  seen-again (Branch low) x e f h r bases = let z : _≡_ {A = ℕ} 0 1 = cc in absurd (omega arith)
+  seen-again LoadAddress x e f h r bases = let z : _≡_ {A = ℕ} 0 1 = cc in absurd (omega arith)
+  seen-again (BranchOn q) x e f h r bases = let z : _≡_ {A = ℕ} 0 1 = cc in absurd (omega arith)
+  seen-again Jump x e f h r bases = let z : _≡_ {A = ℕ} 0 1 = cc in absurd (omega arith)
+  seen-again (JumpOn q) x e f h r bases = let z : _≡_ {A = ℕ} 0 1 = cc in absurd (omega arith)
 
 -- a line that pass one lets through, over all names
 module _ (st : State) (more : ℕ → Entry) (keeps : Keeps (find (st .names)) more) (s : List ℕ) (l : Line) (f : Fine st s l) where
@@ -131,12 +145,11 @@ module _ (st : State) (more : ℕ → Entry) (keeps : Keeps (find (st .names)) m
       go Ends h = refl
       go Makes h = refl
 
-  line-number : readingOf s ≡ Statement l → (bases : Bases)
-      → readingTwoNo more (record { counter = st .counter; bases = bases }) s (Statement l)
-      ≡ unlessSeen (roleOf (l .operation)) (readingTwoNo more (record { counter = st .counter; bases = bases }) s (Statement l))
+  line-again : readingOf s ≡ Statement l → early (roleOf (l .operation)) ≡ true → (bases : Bases)
+      → readingTwoNo more (record { counter = st .counter; bases = bases }) s (Statement l) ≡ 0
   unfolding earlyNo
-  line-number e bases =
-      same-number (find (st .names)) more keeps (st .counter) (operandIn s l) (l .operation) (l .shape) (line-shape s l e) (f .formed) (f .early) bases
+  line-again e r bases =
+      seen-again (find (st .names)) more keeps (st .counter) (operandIn s l) (l .operation) (l .shape) (line-shape s l e) (f .formed) (f .early) r bases
 
 -- A CARD
 
@@ -150,14 +163,12 @@ module _ (st : State) (more : ℕ → Entry) (keeps : Keeps (find (st .names)) m
       go BadName h = same
       go (Statement l) h = ap (λ (n : ℕ). counterAfter more n s l) same ∙ line-counter st more keeps s l (fine st s l h)
 
-  card-number : twoNo more c s ≡ unseenNo more c s
-  unfolding twoNo unseenNo
-  card-number = go (readingOf s) refl (one-zero st s e .2)
-    where
-      go : (x : Reading) → readingOf s ≡ x → readingNo st s x ≡ 0 → readingTwoNo more c s x ≡ readingUnseen x (readingTwoNo more c s x)
-      go Comment q h = refl
-      go BadName q h = absurd (omega arith)
-      go (Statement l) q h = rw same (line-number st more keeps s l (fine st s l h) q (c .bases))
+  card-again : (l : Line) → readingOf s ≡ Statement l → early (roleOf (l .operation)) ≡ true → twoNo more c s ≡ 0
+  unfolding twoNo
+  card-again l q r =
+      ap (readingTwoNo more c s) q
+      ∙ ap (λ (n : ℕ). readingTwoNo more (record { counter = n; bases = c .bases }) s (Statement l)) same
+      ∙ line-again st more keeps s l (fine st s l (ap (readingNo st s) (sym q) ∙ one-zero st s e .2)) q r (c .bases)
 
   pub card-room : st .counter ≤ 65536 → c .counter + cardSize s ≤ 65536
   unfolding cardSize
@@ -209,14 +220,17 @@ module _ (a : State) where
       behind-room n ss (k + 1) (stepOne st s) (stepTwo (find (a .names)) c s) (t .1)
       (card-counter st (find (a .names)) (names-grow (s ∷ ss) k st a h) s (t .0) c e) (step-low st s (t .0) low) (omega arith)
 
-  check-unseen : (ss : List (List ℕ)) (j k : ℕ) (st : State) (c : Course) → passOne k st ss ≡ through a → c .counter ≡ st .counter
-      → checkTwo (find (a .names)) j c ss ≡ checkUnseen (find (a .names)) j c ss
-  unfolding checkTwo checkUnseen
-  check-unseen [] j k st c h e = refl
-  check-unseen (s ∷ ss) j k st c h e =
+  behind-again : (n : ℕ) (ss : List (List ℕ)) (k : ℕ) (st : State) (c : Course) → passOne k st ss ≡ through a → c .counter ≡ st .counter → n < length ss
+      → (l : Line) → readingOf (getD ss n []) ≡ Statement l → early (roleOf (l .operation)) ≡ true
+      → twoNo (find (a .names)) (behindTwo (find (a .names)) n c ss) (getD ss n []) ≡ 0
+  unfolding behindTwo
+  behind-again n [] k st c h e i l q r = absurd (omega arith)
+  behind-again zero (s ∷ ss) k st c h e i l q r =
+      card-again st (find (a .names)) (names-grow (s ∷ ss) k st a h) s (pass-turn k st a s ss h .0) c e l q r
+  behind-again (suc n) (s ∷ ss) k st c h e i l q r =
       let t = pass-turn k st a s ss h in
-      let keeps = names-grow (s ∷ ss) k st a h in
-      rw (card-number st (find (a .names)) keeps s (t .0) c e, check-unseen ss (j + 1) (k + 1) (stepOne st s) (stepTwo (find (a .names)) c s) (t .1) (card-counter st (find (a .names)) keeps s (t .0) c e))
+      behind-again n ss (k + 1) (stepOne st s) (stepTwo (find (a .names)) c s) (t .1)
+      (card-counter st (find (a .names)) (names-grow (s ∷ ss) k st a h) s (t .0) c e) (omega arith) l q r
 
 -- THE THEOREMS, of a source that pass one goes through
 
@@ -246,6 +260,10 @@ module _ (ss : List (List ℕ)) (a : State) (h : passOne 1 fresh ss ≡ through 
       ap (λ here. evaluated (lookIn ss) here e) (same-counters n)
       ∙ value-kept (find (behindOne n fresh ss .names)) (lookIn ss) (names-only-grow n) (counterOne ss n) e v good
 
-  -- "Pass two does the rest": its second look at EQU and ORG refuses nothing
-  pub never-again : checkTwo (find (a .names)) 1 outset ss ≡ checkUnseen (find (a .names)) 1 outset ss
-  never-again = check-unseen a ss 1 1 fresh outset h refl
+  -- "Pass two does the rest": it refuses no EQU and no ORG
+  pub never-again : (k : ℕ) → k < length ss → (l : Line) → readingOf (getD ss k []) ≡ Statement l
+      → (roleOf (l .operation) ≡ Equates) ⊎ (roleOf (l .operation) ≡ SetsCounter)
+      → twoNo (lookIn ss) (behindTwo (lookIn ss) k outset ss) (getD ss k []) ≡ 0
+  never-again k i l q r =
+      ap (λ p. twoNo (find (namesBy p)) (behindTwo (find (namesBy p)) k outset ss) (getD ss k [])) h
+      ∙ behind-again a k ss 1 fresh outset h refl i l q (early-is (roleOf (l .operation)) r)

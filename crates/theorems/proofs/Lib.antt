@@ -14,6 +14,9 @@ pub mod Readable
 pub mod Sums
 pub mod Fields
 pub mod Untouched
+pub mod Stored
+pub mod Judged
+pub mod Accepted
 pub mod ToldOnce
 mod RaisedOperands
 mod RaisedStatements

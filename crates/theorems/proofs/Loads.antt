@@ -1,20 +1,20 @@
 -- The ways a load can go: "Loading: 50, 51, 52, each over the whole book before the next".
-use Prim.Native.Nat.{ℕ, zero, suc}
+use Prim.Native.Nat.{ℕ, zero, suc, _+_}
 use mathlib.Core.List.{List, [], _∷_}
 use mathlib.Core.Bool.{Bool, true, false}
 use mathlib.Core.Option.{Option, none, some}
-use mathlib.Core.Path.{_≡_, refl, ap, _∙_}
+use mathlib.Core.Path.{_≡_, refl, sym, ap, _∙_}
 use native.Mathlib.Omega.{arith}
 use lib.ListN.{length}
 use lib.Dec.{eqb}
-use borrow.Author.Tests.{eqb-true, le-leb}
+use borrow.Author.Tests.{eqb-true, eqb-false, le-leb, le-ltb, lt-ltb}
 use Rattle.values.specs.Tests.{pick}
 use Rattle.values.specs.Values.{movedBy}
 use Rattle.values.specs.declared.Displacement.{Displacement}
 use Rattle.values.specs.declared.Relocatable.{Relocatable}
 use Rattle.values.specs.declared.Moved.{Moved}
 use Rattle.values.specs.declared.Moved.the-variants.{To, Over as MovedOver}
-use Rattle.values.proofs.Sums.{moved-to}
+use Rattle.values.proofs.Sums.{moved-to, moved-over}
 use Rattle.book.specs.declared.Entry.{Entry}
 use Rattle.book.specs.declared.Entry.the-variants.{Absent, At}
 use Rattle.book.specs.Book.{Record, Book, fair, recordOk, cardAt, nextAt, recordAt, onto, recordsFrom, headerOk, entryAt, withEntry, bookOf}
@@ -24,6 +24,8 @@ use Rattle.values.proofs.Laws.{both-true}
 use Rattle.fields.specs.Fields.{overField}
 use Rattle.load.specs.declared.Loaded.the-variants.{Broken, Outside, Over}
 use Rattle.load.specs.Load.{firstCard, outside, roomIn, entered, enteredAt, refused, accepted, judged, ofBook, loading}
+use Rattle.theorems.specs.Moved.{movedEntry}
+use Rattle.theorems.specs.Judged.{entryOver}
 
 module _ (s : List ℕ) (d : Displacement) (m : List ℕ) where
   -- the card of the first record outside storage, and of the first with a field over 65535
@@ -37,37 +39,40 @@ module _ (s : List ℕ) (d : Displacement) (m : List ℕ) where
     -- 50
     isBroken : bookOf s ≡ none → loading s d m ≡ refused Broken m → Load
     -- 51
-    isOutside : (b : Book) → bookOf s ≡ some b → loading s d m ≡ refused (Outside (firstOutside b)) m → Load
+    isOutside : (b : Book) → bookOf s ≡ some b → (firstOutside b ≡ 0 → ⊥) → loading s d m ≡ refused (Outside (firstOutside b)) m → Load
     -- 52, of a field
-    isOver : (b : Book) → bookOf s ≡ some b → loading s d m ≡ refused (Over (firstOver b)) m → Load
+    isOver : (b : Book) → bookOf s ≡ some b → firstOutside b ≡ 0 → (firstOver b ≡ 0 → ⊥) → loading s d m ≡ refused (Over (firstOver b)) m → Load
     -- 52, of the entry alone
-    isEntryOver : (b : Book) → bookOf s ≡ some b → loading s d m ≡ refused (Over 0) m → Load
+    isEntryOver : (b : Book) → bookOf s ≡ some b → firstOutside b ≡ 0 → firstOver b ≡ 0 → entryOver (d .0) (b .entry) ≡ true
+        → loading s d m ≡ refused (Over 0) m → Load
     -- accepted
-    isStored : (b : Book) → bookOf s ≡ some b → firstOutside b ≡ 0 → firstOver b ≡ 0
-        → (at : Entry) → entryFits at ≡ true → loading s d m ≡ accepted (d .0) (b .records) m at → Load
+    isStored : (b : Book) → bookOf s ≡ some b → firstOutside b ≡ 0 → firstOver b ≡ 0 → entryOver (d .0) (b .entry) ≡ false
+        → (at : Entry) → at ≡ movedEntry (d .0) (b .entry) → entryFits at ≡ true → loading s d m ≡ accepted (d .0) (b .records) m at → Load
 
   pub load : Load
   unfolding loading judged
   load = first (bookOf s) refl
     where
-      moved : (b : Book) (v : Relocatable) → bookOf s ≡ some b → firstOutside b ≡ 0 → firstOver b ≡ 0
+      moved : (b : Book) (v : Relocatable) → b .entry ≡ At v → bookOf s ≡ some b → firstOutside b ≡ 0 → firstOver b ≡ 0
           → (x : Moved) → x ≡ movedBy d v → loading s d m ≡ enteredAt x (d .0) (b .records) m → Load
-      moved b v f i u (To w) q e =
+      moved b v n f i u (To w) q e =
           let (is, low) = moved-to d v w q in
-          isStored b f i u (At w) (le-leb (w .0) 65535 (omega arith)) e
-      moved b v f i u MovedOver q e = isEntryOver b f e
+          let to : w ≡ record { 0 = v .0 + d .0 } = ap (λ (k : ℕ). record { 0 = k }) is in
+          isStored b f i u (ap (entryOver (d .0)) n ∙ le-ltb 65535 (v .0 + d .0) low) (At w) (ap At to ∙ ap (movedEntry (d .0)) (sym n))
+          (le-leb (w .0) 65535 (omega arith)) e
+      moved b v n f i u MovedOver q e = isEntryOver b f i u (ap (entryOver (d .0)) n ∙ lt-ltb 65535 (v .0 + d .0) (moved-over d v q)) e
 
-      entry : (b : Book) → bookOf s ≡ some b → firstOutside b ≡ 0 → firstOver b ≡ 0 → (x : Entry) → loading s d m ≡ entered x d (b .records) m → Load
-      entry b f i u Absent e = isStored b f i u Absent refl e
-      entry b f i u (At v) e = moved b v f i u (movedBy d v) refl e
+      entry : (b : Book) → bookOf s ≡ some b → firstOutside b ≡ 0 → firstOver b ≡ 0 → (x : Entry) → b .entry ≡ x → loading s d m ≡ entered x d (b .records) m → Load
+      entry b f i u Absent n e = isStored b f i u (ap (entryOver (d .0)) n) Absent (ap (movedEntry (d .0)) (sym n)) refl e
+      entry b f i u (At v) n e = moved b v n f i u (movedBy d v) refl e
 
       book : (b : Book) → bookOf s ≡ some b → loading s d m ≡ judged (b .entry) d (b .records) m → Load
       book b f e = go (eqb (firstOutside b) 0) refl (eqb (firstOver b) 0) refl
         where
           go : (x : Bool) → eqb (firstOutside b) 0 ≡ x → (y : Bool) → eqb (firstOver b) 0 ≡ y → Load
-          go true p true q = entry b f (eqb-true (firstOutside b) 0 p) (eqb-true (firstOver b) 0 q) (b .entry) (e ∙ rw (p, q))
-          go true p false q = isOver b f (e ∙ rw (p, q))
-          go false p y q = isOutside b f (e ∙ rw p)
+          go true p true q = entry b f (eqb-true (firstOutside b) 0 p) (eqb-true (firstOver b) 0 q) (b .entry) refl (e ∙ rw (p, q))
+          go true p false q = isOver b f (eqb-true (firstOutside b) 0 p) (eqb-false (firstOver b) 0 q) (e ∙ rw (p, q))
+          go false p y q = isOutside b f (eqb-false (firstOutside b) 0 p) (e ∙ rw p)
 
       first : (x : Option Book) → bookOf s ≡ x → Load
       first none f = isBroken f (ap (λ x. ofBook x d m) f)

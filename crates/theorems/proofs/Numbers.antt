@@ -2,7 +2,7 @@
 use Prim.Native.Nat.{ℕ, suc, _+_, _≤_, _<_}
 use mathlib.Core.List.{List, [], _∷_}
 use mathlib.Core.Bool.{Bool, true, false}
-use mathlib.Core.Path.{_≡_, refl}
+use mathlib.Core.Path.{_≡_, refl, sym}
 use mathlib.Core.Logic.{_⊎_, inl, inr}
 use native.Mathlib.Omega.{arith}
 use lib.ListN.{length}
@@ -259,68 +259,82 @@ one-number st s = or-number _ _ (after (st .phase)) (or-number _ _ (pick-number 
     go BadName = one 11 (omega arith) (omega arith)
     go (Statement l) = line-number st s l
 
--- BOTH PASSES: the number, and the card, which is 0 or one of theirs
+-- BOTH PASSES: the number and the card
 
 told : (n : ℕ) → Number n → (n ≡ 0 → ⊥) → (9 ≤ n) × (n ≤ 24)
 told n (inl e) h = absurd (h e)
 told n (inr h) k = h
 
-module _ (number card : ℕ) where
-  pass-number : (ss : List (List ℕ)) (k : ℕ) (st : State) → 1 ≤ k → passOne k st ss ≡ stopped number card → (9 ≤ number) × (number ≤ 24) × (card < k + length ss)
-  unfolding passOne
-  pass-number [] k st some h = go (st .phase) h
-    where
-      no-end : (number ≡ 9) → (card ≡ 0) → (9 ≤ number) × (number ≤ 24) × (card < k + 0)
-      no-end e f = (omega arith, omega arith, omega arith)
+-- 9 to 24 with one of the cards from k on, below `end`; or 9 with card 0: "no END (card 0)"
+abbrev Told : ℕ → ℕ → ℕ → ℕ → Type 0
+Told k end number card = ((9 ≤ number) × (number ≤ 24) × (k ≤ card) × (card < end)) ⊎ ((number ≡ 9) × (card ≡ 0))
 
-      go : (p : Phase) → endedAs p st ≡ stopped number card → (9 ≤ number) × (number ≤ 24) × (card < k + 0)
-      go Phase.Before h = no-end (cc) (cc)
-      go Phase.Within h = no-end (cc) (cc)
+module _ (number card : ℕ) where
+  -- what is told of the cards behind the first
+  behind-first : (k n : ℕ) → Told (k + 1) (k + 1 + n) number card → Told k (k + suc n) number card
+  behind-first k n (inl (low, high, from, to)) = inl (low, high, omega arith, omega arith)
+  behind-first k n (inr h) = inr h
+
+  pass-number : (ss : List (List ℕ)) (k : ℕ) (st : State) → passOne k st ss ≡ stopped number card → Told k (k + length ss) number card
+  unfolding passOne
+  pass-number [] k st h = go (st .phase) h
+    where
+      go : (p : Phase) → endedAs p st ≡ stopped number card → Told k (k + 0) number card
+      go Phase.Before h = let e : _≡_ {A = ℕ} 9 number = cc in let f : _≡_ {A = ℕ} 0 card = cc in inr (sym e, sym f)
+      go Phase.Within h = let e : _≡_ {A = ℕ} 9 number = cc in let f : _≡_ {A = ℕ} 0 card = cc in inr (sym e, sym f)
       go Phase.Ended h = let z : _≡_ {A = ℕ} 0 1 = cc in absurd (omega arith)
-  pass-number (s ∷ ss) k st some h = go (eqb (oneNo st s) 0) refl h (pass-number ss (k + 1) (stepOne st s) (omega arith))
+  pass-number (s ∷ ss) k st h = go (eqb (oneNo st s) 0) refl h (pass-number ss (k + 1) (stepOne st s))
     where
       go : (b : Bool) → eqb (oneNo st s) 0 ≡ b → pick b (passOne (k + 1) (stepOne st s) ss) (stopped (oneNo st s) k) ≡ stopped number card
-          → (passOne (k + 1) (stepOne st s) ss ≡ stopped number card → (9 ≤ number) × (number ≤ 24) × (card < k + 1 + length ss))
-          → (9 ≤ number) × (number ≤ 24) × (card < k + suc (length ss))
-      go true e h ih = let r = ih h in (r .0, r .1, omega arith)
+          → (passOne (k + 1) (stepOne st s) ss ≡ stopped number card → Told (k + 1) (k + 1 + length ss) number card)
+          → Told k (k + suc (length ss)) number card
+      go true e h ih = behind-first k (length ss) (ih h)
       go false e h ih =
           let is : oneNo st s ≡ number = cc in
           let at : k ≡ card = cc in
           let r = told (oneNo st s) (one-number st s) (eqb-false (oneNo st s) 0 e) in
-          (omega arith, omega arith, omega arith)
+          inl (omega arith, omega arith, omega arith, omega arith)
 
-  check-number : (look : ℕ → Entry) (ss : List (List ℕ)) (k : ℕ) (c : Course) → checkTwo look k c ss ≡ Bad number card → (9 ≤ number) × (number ≤ 24) × (card < k + length ss)
+  check-number : (look : ℕ → Entry) (ss : List (List ℕ)) (k : ℕ) (c : Course) → checkTwo look k c ss ≡ Bad number card → Told k (k + length ss) number card
   unfolding checkTwo
   check-number look [] k c h = let z : _≡_ {A = ℕ} 0 1 = cc in absurd (omega arith)
   check-number look (s ∷ ss) k c h = go (eqb (twoNo look c s) 0) refl h (check-number look ss (k + 1) (stepTwo look c s))
     where
       go : (b : Bool) → eqb (twoNo look c s) 0 ≡ b → pick b (checkTwo look (k + 1) (stepTwo look c s) ss) (Bad (twoNo look c s) k) ≡ Bad number card
-          → (checkTwo look (k + 1) (stepTwo look c s) ss ≡ Bad number card → (9 ≤ number) × (number ≤ 24) × (card < k + 1 + length ss))
-          → (9 ≤ number) × (number ≤ 24) × (card < k + suc (length ss))
-      go true e h ih = let r = ih h in (r .0, r .1, omega arith)
+          → (checkTwo look (k + 1) (stepTwo look c s) ss ≡ Bad number card → Told (k + 1) (k + 1 + length ss) number card)
+          → Told k (k + suc (length ss)) number card
+      go true e h ih = behind-first k (length ss) (ih h)
       go false e h ih =
           let is : twoNo look c s ≡ number = cc in
           let at : k ≡ card = cc in
           let r = told (twoNo look c s) (two-number look c s) (eqb-false (twoNo look c s) 0 e) in
-          (omega arith, omega arith, omega arith)
+          inl (omega arith, omega arith, omega arith, omega arith)
 
--- what the cards of a source are refused with: 9 to 24, and a card that is one of them, or 0
-pub cards-number : (ss : List (List ℕ)) (number card : ℕ) → assembled ss ≡ refused number card → (9 ≤ number) × (number ≤ 24) × (card ≤ length ss)
+-- what the cards of a source are refused with: 9 to 24 at one of them, or 9 with card 0
+pub cards-number : (ss : List (List ℕ)) (number card : ℕ) → assembled ss ≡ refused number card
+    → ((9 ≤ number) × (number ≤ 24) × (1 ≤ card) × (card ≤ length ss)) ⊎ ((number ≡ 9) × (card ≡ 0))
 unfolding assembled
 cards-number ss number card h = first (passOne 1 fresh ss) refl h
   where
-    second : (st : State) (x : Checked) → checkTwo (find (st .names)) 1 outset ss ≡ x → afterTwo ss (st .names) x ≡ refused number card → (9 ≤ number) × (number ≤ 24) × (card ≤ length ss)
-    second st Clean two h = let z : _≡_ {A = ℕ} 0 1 = cc in absurd (omega arith)
-    second st (Bad n k) two h =
-        let e : n ≡ number = cc in
-        let f : k ≡ card = cc in
-        let r = check-number n k (find (st .names)) ss 1 outset two in
-        (omega arith, omega arith, omega arith)
+    Goal : Type 0
+    Goal = ((9 ≤ number) × (number ≤ 24) × (1 ≤ card) × (card ≤ length ss)) ⊎ ((number ≡ 9) × (card ≡ 0))
 
-    first : (p : Passed) → passOne 1 fresh ss ≡ p → afterOne ss p ≡ refused number card → (9 ≤ number) × (number ≤ 24) × (card ≤ length ss)
+    all : (n k : ℕ) → n ≡ number → k ≡ card → Told 1 (1 + length ss) n k → Goal
+    all n k e f (inl (low, high, from, to)) = inl (omega arith, omega arith, omega arith, omega arith)
+    all n k e f (inr (x, y)) = inr (omega arith, omega arith)
+
+    second : (st : State) (x : Checked) → checkTwo (find (st .names)) 1 outset ss ≡ x → afterTwo ss (st .names) x ≡ refused number card → Goal
+    second st Clean two h = let z : _≡_ {A = ℕ} 0 1 = cc in absurd (omega arith)
+    second st (Bad n k) two h = all n k (cc) (cc) (check-number n k (find (st .names)) ss 1 outset two)
+
+    first : (p : Passed) → passOne 1 fresh ss ≡ p → afterOne ss p ≡ refused number card → Goal
     first (through st) one h = second st (checkTwo (find (st .names)) 1 outset ss) refl h
-    first (stopped n k) one h =
-        let e : n ≡ number = cc in
-        let f : k ≡ card = cc in
-        let r = pass-number n k ss 1 fresh (omega arith) one in
-        (omega arith, omega arith, omega arith)
+    first (stopped n k) one h = all n k (cc) (cc) (pass-number n k ss 1 fresh one)
+
+-- so the number is none of 1 to 3, and not 30
+pub cards-range : (ss : List (List ℕ)) (number card : ℕ) → assembled ss ≡ refused number card → (9 ≤ number) × (number ≤ 24) × (card ≤ length ss)
+cards-range ss number card h = go (cards-number ss number card h)
+  where
+    go : ((9 ≤ number) × (number ≤ 24) × (1 ≤ card) × (card ≤ length ss)) ⊎ ((number ≡ 9) × (card ≡ 0)) → (9 ≤ number) × (number ≤ 24) × (card ≤ length ss)
+    go (inl (low, high, from, to)) = (low, high, to)
+    go (inr (e, f)) = (omega arith, omega arith, omega arith)

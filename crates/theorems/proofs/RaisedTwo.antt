@@ -25,15 +25,15 @@ use Rattle.passes.specs.One.{earlyNo}
 use Rattle.passes.specs.Two.{readingTwoNo, twoNo, readingTwoStep, stepTwo, checkTwo, readingPieces, cardPieces, withRecord, recordsFrom, entryBy, roleEntry, readingEntry, entryFrom}
 use Rattle.passes.proofs.Turns.{check-turn}
 use Rattle.theorems.specs.Raised.{raisedPiece, raisedCourse}
-use Rattle.theorems.specs.Moved.{raisedEntry}
+use Rattle.theorems.specs.Moved.{movedEntry}
 use Rattle.theorems.proofs.RaisedOperands.{operands-raised}
 use Rattle.theorems.proofs.RaisedStatements.{lone-raised}
 use Rattle.theorems.proofs.RaisedCards.{early-none, counter-raised, bases-raised, line-pieces}
 use Rattle.theorems.proofs.RaisedText.{Low}
 use Rattle.theorems.proofs.LowPieces.{card-low}
 use Rattle.theorems.proofs.RaisedOne.{Usual, AllUsual}
-use Rattle.theorems.proofs.RaisedLoad.{Raised}
-use Rattle.theorems.proofs.RaisedLoad.Raised.{none, more}
+use Rattle.theorems.proofs.RaisedLoad.{RecordsRaised}
+use Rattle.theorems.proofs.RaisedLoad.RecordsRaised.{none, more}
 
 -- no expression of a card that pass two lets through is refused
 expressions-fine : (look : ℕ → NameEntry) (c : Course) (s : List ℕ) (l : Line) → readingTwoNo look c s (Reading.Statement l) ≡ 0
@@ -80,15 +80,15 @@ module _ (d : ℕ) (ns : List Name) where
             let q = expressions-fine (find up) (raisedCourse d c) s l k in
             line-pieces d s l e n f ns (c .counter) p q (c .bases)
 
-    entry-raised : (rest : Entry) → readingEntry (find up) (raisedCourse d c) s (readingOf s) (raisedEntry d rest) ≡ raisedEntry d (readingEntry (find ns) c s (readingOf s) rest)
+    entry-raised : (rest : Entry) → readingEntry (find up) (raisedCourse d c) s (readingOf s) (movedEntry d rest) ≡ movedEntry d (readingEntry (find ns) c s (readingOf s) rest)
     unfolding twoNo
     entry-raised rest = go (readingOf s) h k
       where
-        by : (v : Value) → entryBy (raisedValue d v) ≡ raisedEntry d (entryBy v)
+        by : (v : Value) → entryBy (raisedValue d v) ≡ movedEntry d (entryBy v)
         by (Absolute a) = refl
         by (Relocatable a) = refl
 
-        role : (r : Role) (v : Value) → roleEntry r (raisedValue d v) (raisedEntry d rest) ≡ raisedEntry d (roleEntry r v rest)
+        role : (r : Role) (v : Value) → roleEntry r (raisedValue d v) (movedEntry d rest) ≡ movedEntry d (roleEntry r v rest)
         role Role.Starts v = refl
         role Role.Equates v = refl
         role Role.SetsCounter v = refl
@@ -96,7 +96,7 @@ module _ (d : ℕ) (ns : List Name) where
         role Role.Makes v = refl
 
         go : (x : Reading) → readingTwoNo (find ns) c s x ≡ 0 → readingTwoNo (find up) (raisedCourse d c) s x ≡ 0
-            → readingEntry (find up) (raisedCourse d c) s x (raisedEntry d rest) ≡ raisedEntry d (readingEntry (find ns) c s x rest)
+            → readingEntry (find up) (raisedCourse d c) s x (movedEntry d rest) ≡ movedEntry d (readingEntry (find ns) c s x rest)
         go Reading.Comment h k = refl
         go Reading.BadName h k = refl
         go (Reading.Statement l) h k =
@@ -107,13 +107,13 @@ module _ (d : ℕ) (ns : List Name) where
 
   -- ALL CARDS
 
-  with-raised : (card address : ℕ) (ps : List Piece) (rs qs : List Record) → Low (map (raisedPiece d) ps) → Raised d rs qs
-      → Raised d (withRecord card address ps rs) (withRecord card (address + d) (map (raisedPiece d) ps) qs)
+  with-raised : (card address : ℕ) (ps : List Piece) (rs qs : List Record) → Low (map (raisedPiece d) ps) → RecordsRaised d rs qs
+      → RecordsRaised d (withRecord card address ps rs) (withRecord card (address + d) (map (raisedPiece d) ps) qs)
   with-raised card address [] rs qs low r = r
   with-raised card address (p ∷ ps) rs qs low r = more card address (p ∷ ps) low r
 
   pub records-raised : (ss : List (List ℕ)) (k : ℕ) (c : Course) → AllUsual ss → checkTwo (find ns) k c ss ≡ Clean → checkTwo (find up) k (raisedCourse d c) ss ≡ Clean
-      → Raised d (recordsFrom (find ns) k c ss) (recordsFrom (find up) k (raisedCourse d c) ss)
+      → RecordsRaised d (recordsFrom (find ns) k c ss) (recordsFrom (find up) k (raisedCourse d c) ss)
   unfolding recordsFrom
   records-raised [] k c u p q = none
   records-raised (s ∷ ss) k c (u, us) p q =
@@ -126,7 +126,7 @@ module _ (d : ℕ) (ns : List Name) where
       rw (card, step) (with-raised k (c .counter) (cardPieces (find ns) c s) _ _ low rest)
 
   pub entries-raised : (ss : List (List ℕ)) (k : ℕ) (c : Course) → AllUsual ss → checkTwo (find ns) k c ss ≡ Clean → checkTwo (find up) k (raisedCourse d c) ss ≡ Clean
-      → entryFrom (find up) (raisedCourse d c) ss ≡ raisedEntry d (entryFrom (find ns) c ss)
+      → entryFrom (find up) (raisedCourse d c) ss ≡ movedEntry d (entryFrom (find ns) c ss)
   unfolding entryFrom
   entries-raised [] k c u p q = refl
   entries-raised (s ∷ ss) k c (u, us) p q =

@@ -1,4 +1,5 @@
--- READABLE. "The book": the book of an accepted source keeps the layout; reading its bytes gives its entry, its records and nothing else;
+-- READABLE (demand 2): "loading puts exactly those bytes into storage". The book of an accepted source keeps the layout; reading its bytes gives its entry,
+-- its records and nothing else ("Nothing follows");
 -- so loading it is never refused by 50.
 use Prim.Native.Nat.{ℕ, _+_, _≤_, _<_}
 use mathlib.Core.List.{List, [], _∷_}
@@ -160,10 +161,10 @@ read-whole s b is d m h = go (load s d m)
   where
     go : Load s d m → ⊥
     go (isBroken f e) = let z : _≡_ {A = ℕ} 0 1 = cc in omega arith
-    go (isOutside b f e) = let z : _≡_ {A = ℕ} 0 1 = cc in omega arith
-    go (isOver b f e) = let z : _≡_ {A = ℕ} 0 1 = cc in omega arith
-    go (isEntryOver b f e) = let z : _≡_ {A = ℕ} 0 1 = cc in omega arith
-    go (isStored b f i u to l e) = let z : _≡_ {A = ℕ} 0 1 = cc in omega arith
+    go (isOutside b f n e) = let z : _≡_ {A = ℕ} 0 1 = cc in omega arith
+    go (isOver b f i n e) = let z : _≡_ {A = ℕ} 0 1 = cc in omega arith
+    go (isEntryOver b f i u o e) = let z : _≡_ {A = ℕ} 0 1 = cc in omega arith
+    go (isStored b f i u o to x l e) = let z : _≡_ {A = ℕ} 0 1 = cc in omega arith
 
 -- THE THEOREM, of an accepted source: at most 4,000 cards, a count of names and a book
 

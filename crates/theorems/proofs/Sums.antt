@@ -1,5 +1,5 @@
--- SUMS. "An accepted assembly returns the book's length and the count of names"; loading answers with "the bytes stored, overlaid ones counted each time":
--- each is a sum over cards or records.
+-- SUMS (demand 2): "so are invented byte and name counts, since each is a sum over cards or records".
+-- "An accepted assembly returns the book's length and the count of names"; loading answers with "the bytes stored, overlaid ones counted each time".
 use Prim.Native.Nat.{ℕ, _+_}
 use mathlib.Core.List.{List, [], _∷_, _++_}
 use mathlib.Core.Bool.{Bool, true, false}
@@ -153,10 +153,10 @@ bytes-of-load s d m bytes at h = go (load s d m)
 
     go : Load s d m → (b : Book) × (bookOf s ≡ some b) × (bytes ≡ total textLength (b .records))
     go (isBroken f e) = let q = other Broken e in let z : _≡_ {A = ℕ} 0 1 = cc in absurd (omega arith)
-    go (isOutside b f e) = let q = other (Outside (firstOutside s d m b)) e in let z : _≡_ {A = ℕ} 0 1 = cc in absurd (omega arith)
-    go (isOver b f e) = let q = other (Over (firstOver s d m b)) e in let z : _≡_ {A = ℕ} 0 1 = cc in absurd (omega arith)
-    go (isEntryOver b f e) = let q = other (Over 0) e in let z : _≡_ {A = ℕ} 0 1 = cc in absurd (omega arith)
-    go (isStored b f i u to l e) = let q : bytes ≡ bytesStored (b .records) = cc in (b, f, q ∙ stored-sum (b .records))
+    go (isOutside b f n e) = let q = other (Outside (firstOutside s d m b)) e in let z : _≡_ {A = ℕ} 0 1 = cc in absurd (omega arith)
+    go (isOver b f i n e) = let q = other (Over (firstOver s d m b)) e in let z : _≡_ {A = ℕ} 0 1 = cc in absurd (omega arith)
+    go (isEntryOver b f i u o e) = let q = other (Over 0) e in let z : _≡_ {A = ℕ} 0 1 = cc in absurd (omega arith)
+    go (isStored b f i u o to x l e) = let q : bytes ≡ bytesStored (b .records) = cc in (b, f, q ∙ stored-sum (b .records))
 
 -- of the call: the answer's two numbers
 pub counts-of-call : (width : ℕ) (source work out : List ℕ) (bytes names : ℕ) → assembling width source work out .answer ≡ Made bytes names

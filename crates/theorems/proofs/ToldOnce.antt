@@ -1,4 +1,4 @@
--- TOLD ONCE. "For every input the contract determines the entire reply and each lent byte afterwards. Where two replies would satisfy it, they are shown equal":
+-- TOLD ONCE (demand 1). "For every input the contract determines the entire reply and each lent byte afterwards. Where two replies would satisfy it, they are shown equal":
 -- two replies that meet a public contract are the same. And packing is one to one: two different answers are never packed to the same number.
 use Prim.{Unit, tt}
 use Prim.Native.Nat.{ℕ, _+_, _*_, _^_, _≤_, _<_}
@@ -24,11 +24,11 @@ use Rattle.passes.specs.Assembly.{Outcome as AssemblyOutcome, assembling}
 use Rattle.passes.proofs.Names.{pass-few}
 use Rattle.cards.specs.Source.{cardsOf}
 use Rattle.book.proofs.Laws.{fields-few}
-use Rattle.mersclund.specs.Packed.{packedEntry, packedLoad}
+use Rattle.mersclund.specs.Packed.{packedEntry, packedLoad, packedAssembled}
 use Rattle.theorems.specs.Sums.{total, recordLength}
 use Rattle.theorems.specs.ToldOnce.{Loads, Assembles, Prints}
 use Rattle.theorems.proofs.Made.{both-passed}
-use Rattle.theorems.proofs.Numbers.{cards-number}
+use Rattle.theorems.proofs.Numbers.{cards-range}
 use Rattle.theorems.proofs.Sums.{record-length, book-length}
 use Rattle.theorems.proofs.Readable.{fair-records}
 use Rattle.theorems.proofs.Called.{Way, way}
@@ -42,7 +42,7 @@ pub load-once : (book : List ℕ) (displacement : ℕ) (storage : List ℕ) (r s
     → Loads book displacement storage r m → Loads book displacement storage s n → (r ≡ s) × (m ≡ n)
 load-once book displacement storage r s m n x y = (x .answer ∙ sym (y .answer), x .stored ∙ sym (y .stored))
 
-pub assemble-once : (width : ℕ) (source work out : List ℕ) (r s : Assembled) (w x o p : List ℕ)
+pub assemble-once : (width : ℕ) (source work out : List ℕ) (r s : ℕ) (w x o p : List ℕ)
     → Assembles width source work out r w o → Assembles width source work out s x p → (r ≡ s) × (w ≡ x) × (o ≡ p)
 assemble-once width source work out r s w x o p f g =
     (f .answer ∙ sym (g .answer), f .worked ∙ sym (g .worked), f .written ∙ sym (g .written))
@@ -90,10 +90,10 @@ load-fits s d m = go (load s d m)
 
     go : Load s d m → Fits (loading s d m .answer)
     go (isBroken f e) = is Broken (ap (λ (x : Outcome). x .answer) e) tt
-    go (isOutside b f e) = is (Outside _) (ap (λ (x : Outcome). x .answer) e) (first-low _ (b .records) 0 (read-fair s b f))
-    go (isOver b f e) = is (Over _) (ap (λ (x : Outcome). x .answer) e) (first-low _ (b .records) 0 (read-fair s b f))
-    go (isEntryOver b f e) = is (Over 0) (ap (λ (x : Outcome). x .answer) e) (omega arith)
-    go (isStored b f i u at l e) =
+    go (isOutside b f n e) = is (Outside _) (ap (λ (x : Outcome). x .answer) e) (first-low _ (b .records) 0 (read-fair s b f))
+    go (isOver b f i n e) = is (Over _) (ap (λ (x : Outcome). x .answer) e) (first-low _ (b .records) 0 (read-fair s b f))
+    go (isEntryOver b f i u o e) = is (Over 0) (ap (λ (x : Outcome). x .answer) e) (omega arith)
+    go (isStored b f i u o at x l e) =
         let low = stored-low (b .records) 0 (read-fair s b f) (omega arith) in
         is (Stored (bytesStored (b .records)) at) (ap (λ (x : Outcome). x .answer) e) (omega arith, l)
 
@@ -141,7 +141,7 @@ load-one-to-one s d m t e n = load-packed (loading s d m .answer) (loading t e n
 
 -- WHAT AN ASSEMBLY ANSWERS FITS: the book's length in 32 bits, at most 512 names; a number of refusal that is not 0, with a card
 
-abbrev pub FitsIn : Assembled → Type 0
+abbrev FitsIn : Assembled → Type 0
 FitsIn (Made bytes names) = (bytes ≤ 1564008) × (names ≤ 512)
 FitsIn (Refused number card) = (1 ≤ number) × (number ≤ 30) × (card ≤ 4000)
 
@@ -159,7 +159,7 @@ records-low (r ∷ rs) last f h =
     let ih = records-low rs (r .card) others card in
     omega arith
 
-pub assemble-fits : (width : ℕ) (source work out : List ℕ) → FitsIn (assembling width source work out .answer)
+assemble-fits : (width : ℕ) (source work out : List ℕ) → FitsIn (assembling width source work out .answer)
 assemble-fits width source work out = go (way width source work out)
   where
     is : (a : Assembled) → assembling width source work out .answer ≡ a → FitsIn a → FitsIn (assembling width source work out .answer)
@@ -168,7 +168,7 @@ assemble-fits width source work out = go (way width source work out)
     go : Way width source work out → FitsIn (assembling width source work out .answer)
     go (atOnce n l u e) = is (Refused n 0) (ap (λ (x : AssemblyOutcome). x .answer) e) (l, omega arith, omega arith)
     go (byCards w few n k f e) =
-        let r = cards-number (cardsOf width source) n k f in
+        let r = cards-range (cardsOf width source) n k f in
         is (Refused n k) (ap (λ (x : AssemblyOutcome). x .answer) e) (omega arith, omega arith, omega arith)
     go (tooLong w n b f l e) = is (Refused 30 0) (ap (λ (x : AssemblyOutcome). x .answer) e) (omega arith, omega arith, omega arith)
     go (whole w n b few f l e) =
@@ -178,3 +178,16 @@ assemble-fits width source work out = go (way width source work out)
         let size = book-length b in
         let low = records-low (b .records) 0 (fair-records (cardsOf width source) few n b f) (omega arith) in
         is (Made (length (bookBytes b)) n) (ap (λ (x : AssemblyOutcome). x .answer) e) (omega arith, omega arith)
+
+assemble-packed : (a b : Assembled) → FitsIn a → FitsIn b → packedAssembled a ≡ packedAssembled b → a ≡ b
+assemble-packed (Made x m) (Made y n) (h, i) (k, j) q = let bytes : x ≡ y = omega arith in let names : m ≡ n = omega arith in cc
+assemble-packed (Refused x m) (Refused y n) (h, i, l) (k, j, o) q = let number : x ≡ y = omega arith in let card : m ≡ n = omega arith in cc
+assemble-packed (Made x m) (Refused y n) (h, i) (k, j, o) q = absurd (omega arith)
+assemble-packed (Refused x m) (Made y n) (h, i, l) (k, j) q = absurd (omega arith)
+
+-- two assemblies, of whatever sources, that answer with the same number answer the same
+pub assemble-one-to-one : (width : ℕ) (source work out : List ℕ) (width′ : ℕ) (source′ work′ out′ : List ℕ)
+    → packedAssembled (assembling width source work out .answer) ≡ packedAssembled (assembling width′ source′ work′ out′ .answer)
+    → assembling width source work out .answer ≡ assembling width′ source′ work′ out′ .answer
+assemble-one-to-one width source work out width′ source′ work′ out′ =
+    assemble-packed (assembling width source work out .answer) (assembling width′ source′ work′ out′ .answer) (assemble-fits width source work out) (assemble-fits width′ source′ work′ out′)

@@ -1,4 +1,4 @@
--- REFUSED MEANS UNTOUCHED. Assembling: "Output past the book is unchanged; all of it is on a refusal. The first 8,192 bytes of the work area are zero after every answer
+-- REFUSED MEANS UNTOUCHED (demand 1). Assembling: "Output past the book is unchanged; all of it is on a refusal. The first 8,192 bytes of the work area are zero after every answer
 -- but 1, 2 and 3, which leave it untouched; bytes beyond them never change." Loading: a refusal stores nothing; "Storage counts up to 65,536 bytes".
 -- Printing: "writes REFUSED 50 and nothing else".
 use Prim.Native.Nat.{ℕ, _+_, _≤_, _<_}
@@ -11,7 +11,7 @@ use mathlib.Core.Logic.{_⊎_, inl, inr}
 use native.Mathlib.Omega.{arith}
 use lib.ListN.{length, getD, drop, replicate, length-append, length-drop, length-replicate, getD-replicate, List·getD-append}
 use lib.Dec.{leb}
-use borrow.Author.Tests.{ltb-false, le-ltb, leb-true}
+use borrow.Author.Tests.{ltb-false, le-ltb, lt-ltb, leb-true}
 use Rattle.values.specs.Tests.{pick}
 use Rattle.values.proofs.Laws.{both-true}
 use lib.Seq.{sets, length-sets, drop-at}
@@ -29,10 +29,10 @@ use Rattle.fields.proofs.Laws.{moved-length}
 use Rattle.load.specs.declared.Loaded.the-variants.{Stored}
 use Rattle.load.specs.Load.{Outcome as LoadOutcome, stored, storedAll, bytesStored, firstCard, outside, roomIn, loading}
 use Rattle.load.proofs.Laws.{none-fails}
-use Rattle.print.specs.Print.{headerLine, recordLines, refused50, linesOf, printed, whereRoom}
+use Rattle.print.specs.Print.{headerLine, recordLines, refused50, refused57, linesOf, printed, whereRoom}
 use Rattle.print.proofs.Laws.{header-length, no-room}
 use Rattle.theorems.proofs.Stores.{sets-other, drop-sets}
-use Rattle.theorems.proofs.Numbers.{cards-number}
+use Rattle.theorems.proofs.Numbers.{cards-number, cards-range}
 use Rattle.theorems.proofs.Loads.{Load, load, read-fair, fair-first}
 use Rattle.theorems.proofs.Loads.Load.{isBroken, isOutside, isOver, isEntryOver, isStored}
 use Rattle.theorems.proofs.Called.{Way, way}
@@ -100,7 +100,7 @@ module _ (width : ℕ) (source work out : List ℕ) where
       go (atOnce n l u e) = ap (λ (x : Outcome). x .work) e
       go (byCards w few n k f e) =
           let is : n ≡ number = cc in
-          let high = cards-number (cardsOf width source) n k f .0 in
+          let high = cards-range (cardsOf width source) n k f .0 in
           absurd (omega arith)
       go (tooLong w n b f l e) = let is : _≡_ {A = ℕ} 30 number = cc in absurd (omega arith)
       go (whole w n b few f l e) = let z : _≡_ {A = ℕ} 0 1 = cc in absurd (omega arith)
@@ -134,23 +134,26 @@ module _ (width : ℕ) (source work out : List ℕ) where
       go (tooLong w n b f l e) = ap (λ (x : Outcome). length (x .work)) e ∙ zeroed-length workSize work w
       go (whole w n b few f l e) = ap (λ (x : Outcome). length (x .work)) e ∙ zeroed-length workSize work w
 
-  -- "Numbers of refusal": 1 to 3, 9 to 24, 30; the card is one of the source's, and 0 for 1, 2, 3 and 30
-  pub refusal-numbers : (number card : ℕ) → after .answer ≡ Refused number card
-      → ((1 ≤ number) × (number ≤ 3) × (card ≡ 0)) ⊎ (((9 ≤ number) × (number ≤ 24) × (card ≤ length (cardsOf width source))) ⊎ ((number ≡ 30) × (card ≡ 0)))
+  -- "A refusal returns its number and the card, 0 for 1, 2, 3, 30, 50 and no END": 9 to 24 with a card of the source, 9 with card 0 where there is no END
+  abbrev pub Refusal : ℕ → ℕ → Type 0
+  Refusal number card =
+      ((1 ≤ number) × (number ≤ 3) × (card ≡ 0)) ⊎ (((9 ≤ number) × (number ≤ 24) × (1 ≤ card) × (card ≤ length (cardsOf width source)))
+      ⊎ (((number ≡ 9) × (card ≡ 0)) ⊎ ((number ≡ 30) × (card ≡ 0))))
+
+  pub refusal-numbers : (number card : ℕ) → after .answer ≡ Refused number card → Refusal number card
   refusal-numbers number card h = go (way width source work out)
     where
-      go : Way width source work out
-          → ((1 ≤ number) × (number ≤ 3) × (card ≡ 0)) ⊎ (((9 ≤ number) × (number ≤ 24) × (card ≤ length (cardsOf width source))) ⊎ ((number ≡ 30) × (card ≡ 0)))
+      cards : (n k : ℕ) → n ≡ number → k ≡ card → ((9 ≤ n) × (n ≤ 24) × (1 ≤ k) × (k ≤ length (cardsOf width source))) ⊎ ((n ≡ 9) × (k ≡ 0)) → Refusal number card
+      cards n k e f (inl (low, high, from, to)) = inr (inl (omega arith, omega arith, omega arith, omega arith))
+      cards n k e f (inr (x, y)) = inr (inr (inl (omega arith, omega arith)))
+
+      go : Way width source work out → Refusal number card
       go (atOnce n l u e) =
           let is : n ≡ number = cc in
           let at : card ≡ 0 = cc in
           inl (omega arith, omega arith, at)
-      go (byCards w few n k f e) =
-          let is : n ≡ number = cc in
-          let at : k ≡ card = cc in
-          let r = cards-number (cardsOf width source) n k f in
-          inr (inl (omega arith, omega arith, omega arith))
-      go (tooLong w n b f l e) = inr (inr (cc, cc))
+      go (byCards w few n k f e) = cards n k (cc) (cc) (cards-number (cardsOf width source) n k f)
+      go (tooLong w n b f l e) = inr (inr (inr (cc, cc)))
       go (whole w n b few f l e) = let z : _≡_ {A = ℕ} 0 1 = cc in absurd (omega arith)
 
 -- LOADING
@@ -161,7 +164,7 @@ module _ (d : ℕ) where
   abbrev pub OutsideAll : ℕ → List Record → Type 0
   OutsideAll i rs = (r : Record) → List·Memᴰ r rs → (i < r .address + d) ⊎ (r .address + d + length (r .text) ≤ i)
 
-  stored-other : (rs : List Record) (m : List ℕ) (i : ℕ) → OutsideAll i rs → getD (storedAll d rs m) i 0 ≡ getD m i 0
+  pub stored-other : (rs : List Record) (m : List ℕ) (i : ℕ) → OutsideAll i rs → getD (storedAll d rs m) i 0 ≡ getD m i 0
   unfolding storedAll stored
   stored-other [] m i h = refl
   stored-other (r ∷ rs) m i h =
@@ -197,10 +200,10 @@ module _ (s : List ℕ) (d : Displacement) (m : List ℕ) where
     where
       go : Load s d m → loaded .storage ≡ m
       go (isBroken f e) = ap (λ (x : LoadOutcome). x .storage) e
-      go (isOutside b f e) = ap (λ (x : LoadOutcome). x .storage) e
-      go (isOver b f e) = ap (λ (x : LoadOutcome). x .storage) e
-      go (isEntryOver b f e) = ap (λ (x : LoadOutcome). x .storage) e
-      go (isStored b f i u at l e) = absurd (no-load (bytesStored (b .records)) at (ap (λ (x : LoadOutcome). x .answer) e))
+      go (isOutside b f n e) = ap (λ (x : LoadOutcome). x .storage) e
+      go (isOver b f i n e) = ap (λ (x : LoadOutcome). x .storage) e
+      go (isEntryOver b f i u o e) = ap (λ (x : LoadOutcome). x .storage) e
+      go (isStored b f i u o at x l e) = absurd (no-load (bytesStored (b .records)) at (ap (λ (x : LoadOutcome). x .answer) e))
 
   -- bytes behind 65,536 never change
   pub storage-beyond : drop 65536 (loaded .storage) ≡ drop 65536 m
@@ -208,10 +211,10 @@ module _ (s : List ℕ) (d : Displacement) (m : List ℕ) where
     where
       go : Load s d m → drop 65536 (loaded .storage) ≡ drop 65536 m
       go (isBroken f e) = ap (λ (x : LoadOutcome). drop 65536 (x .storage)) e
-      go (isOutside b f e) = ap (λ (x : LoadOutcome). drop 65536 (x .storage)) e
-      go (isOver b f e) = ap (λ (x : LoadOutcome). drop 65536 (x .storage)) e
-      go (isEntryOver b f e) = ap (λ (x : LoadOutcome). drop 65536 (x .storage)) e
-      go (isStored b f i u at l e) =
+      go (isOutside b f n e) = ap (λ (x : LoadOutcome). drop 65536 (x .storage)) e
+      go (isOver b f i n e) = ap (λ (x : LoadOutcome). drop 65536 (x .storage)) e
+      go (isEntryOver b f i u o e) = ap (λ (x : LoadOutcome). drop 65536 (x .storage)) e
+      go (isStored b f i u o at x l e) =
           ap (λ (x : LoadOutcome). drop 65536 (x .storage)) e ∙ stored-beyond (d .0) (roomIn m) (b .records) m 0 (read-fair s b f) i 65536 (omega arith)
 
   -- bytes outside the place of every record of the book never change
@@ -220,10 +223,10 @@ module _ (s : List ℕ) (d : Displacement) (m : List ℕ) where
     where
       go : Load s d m → getD (loaded .storage) i 0 ≡ getD m i 0
       go (isBroken f e) = ap (λ (x : LoadOutcome). getD (x .storage) i 0) e
-      go (isOutside b f e) = ap (λ (x : LoadOutcome). getD (x .storage) i 0) e
-      go (isOver b f e) = ap (λ (x : LoadOutcome). getD (x .storage) i 0) e
-      go (isEntryOver b f e) = ap (λ (x : LoadOutcome). getD (x .storage) i 0) e
-      go (isStored b f j u at l e) = ap (λ (x : LoadOutcome). getD (x .storage) i 0) e ∙ stored-other (d .0) (b .records) m i (out b f)
+      go (isOutside b f n e) = ap (λ (x : LoadOutcome). getD (x .storage) i 0) e
+      go (isOver b f j n e) = ap (λ (x : LoadOutcome). getD (x .storage) i 0) e
+      go (isEntryOver b f j u o e) = ap (λ (x : LoadOutcome). getD (x .storage) i 0) e
+      go (isStored b f j u o at x l e) = ap (λ (x : LoadOutcome). getD (x .storage) i 0) e ∙ stored-other (d .0) (b .records) m i (out b f)
 
   -- storage keeps its length
   pub storage-length : length (loaded .storage) ≡ length m
@@ -231,10 +234,10 @@ module _ (s : List ℕ) (d : Displacement) (m : List ℕ) where
     where
       go : Load s d m → length (loaded .storage) ≡ length m
       go (isBroken f e) = ap (λ (x : LoadOutcome). length (x .storage)) e
-      go (isOutside b f e) = ap (λ (x : LoadOutcome). length (x .storage)) e
-      go (isOver b f e) = ap (λ (x : LoadOutcome). length (x .storage)) e
-      go (isEntryOver b f e) = ap (λ (x : LoadOutcome). length (x .storage)) e
-      go (isStored b f i u at l e) = ap (λ (x : LoadOutcome). length (x .storage)) e ∙ stored-length (d .0) (b .records) m
+      go (isOutside b f n e) = ap (λ (x : LoadOutcome). length (x .storage)) e
+      go (isOver b f i n e) = ap (λ (x : LoadOutcome). length (x .storage)) e
+      go (isEntryOver b f i u o e) = ap (λ (x : LoadOutcome). length (x .storage)) e
+      go (isStored b f i u o at x l e) = ap (λ (x : LoadOutcome). length (x .storage)) e ∙ stored-length (d .0) (b .records) m
 
 -- PRINTING
 
@@ -242,6 +245,11 @@ module _ (s : List ℕ) (d : Displacement) (m : List ℕ) where
 pub printed-50 : (s : List ℕ) → length s ≤ 65536 → bookOf s ≡ none → printed s ≡ refused50
 unfolding printed
 printed-50 s h e = rw (le-ltb 65536 (length s) h) (ap (linesOf s) e)
+
+-- "REFUSED 57 for a longer input"
+pub printed-57 : (s : List ℕ) → 65536 < length s → printed s ≡ refused57
+unfolding printed
+printed-57 s h = rw (lt-ltb 65536 (length s) h)
 
 -- a book's lines: the header's and one for each record
 pub printed-book : (s : List ℕ) (b : Book) → length s ≤ 65536 → bookOf s ≡ some b → printed s ≡ headerLine s ++ recordLines (b .records)

@@ -17,11 +17,11 @@ abbrev pub piecesAt : List (List ℕ) → ℕ → List Piece
 piecesAt ss n = cardPieces (lookIn ss) (behindTwo (lookIn ss) n outset ss) (getD ss n [])
 
 -- the record of card n + 1: its number, pass one's counter before it, the offsets and the text of its pieces
-abbrev pub recordAt : List (List ℕ) → ℕ → Record
-recordAt ss n = recordOf (suc n) (counterOne ss n) (piecesAt ss n)
+abbrev pub cardRecord : List (List ℕ) → ℕ → Record
+cardRecord ss n = recordOf (suc n) (counterOne ss n) (piecesAt ss n)
 
 -- a relocatable value of two bytes starts at an offset: the pieces before it have so many bytes
-pub record Starts (ps : List Piece) (offset : ℕ) : Type 0 where
+pub record FieldAt (ps : List Piece) (offset : ℕ) : Type 0 where
   pub before : List Piece
   pub place : Relocatable
   pub behind : List Piece

@@ -1,9 +1,7 @@
 -- How far each pass has got, and what names that only grow keep.
-use Prim.Native.Nat.{ℕ, zero, suc, _+_}
+use Prim.Native.Nat.{ℕ, zero, suc}
 use mathlib.Core.List.{List, [], _∷_}
 use mathlib.Core.Path.{_≡_}
-use lib.Dec.{eqb}
-use Rattle.values.specs.Tests.{pick}
 use Rattle.values.specs.declared.Value.{Value}
 use Rattle.names.specs.declared.Name.{Name}
 use Rattle.names.specs.declared.Entry.{Entry}
@@ -13,15 +11,10 @@ use Rattle.forms.specs.Size.{sizeOf}
 use Rattle.lines.specs.declared.Reading.{Reading}
 use Rattle.lines.specs.declared.Reading.the-variants.{Comment, BadName, Statement}
 use Rattle.lines.specs.Lines.{readingOf}
-use Rattle.passes.specs.declared.Role.{Role}
-use Rattle.passes.specs.declared.Role.the-variants.{Starts, Equates, SetsCounter, Ends, Makes}
 use Rattle.passes.specs.declared.Course.{Course}
-use Rattle.passes.specs.declared.Checked.{Checked}
-use Rattle.passes.specs.declared.Checked.the-variants.{Clean, Bad}
-use Rattle.passes.specs.Cards.{roleOf}
 use Rattle.passes.specs.One.{State, Passed, fresh, stepOne, passOne}
 use Rattle.passes.specs.One.Passed.{through, stopped}
-use Rattle.passes.specs.Two.{outset, twoNo, stepTwo}
+use Rattle.passes.specs.Two.{outset, stepTwo}
 
 -- what `look` says of a defined name, `more` says too: the same value and the same length
 abbrev pub Keeps : (ℕ → Entry) → (ℕ → Entry) → Type 0
@@ -64,26 +57,3 @@ readingSize (Statement l) = sizeOf (l .operation) (l .shape)
 
 unfoldable pub cardSize : List ℕ → ℕ
 cardSize s = readingSize (readingOf s)
-
--- PASS TWO WITHOUT ITS SECOND LOOK AT EQU AND ORG
-
-abbrev pub unlessSeen : Role → ℕ → ℕ
-unlessSeen Starts number = number
-unlessSeen Equates number = 0
-unlessSeen SetsCounter number = 0
-unlessSeen Ends number = number
-unlessSeen Makes number = number
-
-abbrev pub readingUnseen : Reading → ℕ → ℕ
-readingUnseen Comment number = number
-readingUnseen BadName number = number
-readingUnseen (Statement l) number = unlessSeen (roleOf (l .operation)) number
-
--- pass two's number for a card; none for EQU and ORG
-unfoldable pub unseenNo : (ℕ → Entry) → Course → List ℕ → ℕ
-unseenNo look c s = readingUnseen (readingOf s) (twoNo look c s)
-
-unfoldable pub checkUnseen : (ℕ → Entry) → ℕ → Course → List (List ℕ) → Checked
-checkUnseen look k c [] = Clean
-checkUnseen look k c (s ∷ ss) =
-    pick (eqb (unseenNo look c s) 0) (checkUnseen look (k + 1) (stepTwo look c s) ss) (Bad (unseenNo look c s) k)

@@ -6,3 +6,4 @@ pub mod Fields
 pub mod Raised
 pub mod Moved
 pub mod ToldOnce
+pub mod Judged

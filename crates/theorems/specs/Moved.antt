@@ -42,9 +42,9 @@ module _ (d : ℕ) where
   abbrev pub movedRecord : Record → Record
   movedRecord r = record { card = r .card; address = r .address + d; fields = r .fields; text = movedText d r }
 
-  abbrev pub raisedEntry : Entry → Entry
-  raisedEntry Absent = Absent
-  raisedEntry (At e) = At (record { 0 = e .0 + d })
+  abbrev pub movedEntry : Entry → Entry
+  movedEntry Absent = Absent
+  movedEntry (At e) = At (record { 0 = e .0 + d })
 
   abbrev pub movedBook : Book → Book
-  movedBook b = record { entry = raisedEntry (b .entry); records = map movedRecord (b .records) }
+  movedBook b = record { entry = movedEntry (b .entry); records = map movedRecord (b .records) }

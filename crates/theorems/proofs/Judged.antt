@@ -1,0 +1,177 @@
+-- REFUSED EXACTLY WHEN, of a load (demand 1): "Loading: 50, 51, 52, each over the whole book before the next".
+-- "51 and 52 give the card of the first such record; 52 for the entry alone gives 0."
+use Prim.Native.Nat.{ℕ}
+use mathlib.Core.List.{List, [], _∷_, List·Memᴰ, List·Memᴰ·cases-cons, List·Memᴰ·not-nil}
+use mathlib.Core.List.List·Memᴰ.{List·Memᴰ·head, List·Memᴰ·tail}
+use mathlib.Core.Bool.{Bool, true, false}
+use mathlib.Core.Option.{none, some}
+use mathlib.Core.Path.{_≡_, refl, sym, ap, _∙_, subst}
+use mathlib.Core.Logic.{_⊎_, inl, inr, _↔_}
+use native.Mathlib.Omega.{arith}
+use Rattle.values.specs.declared.Displacement.{Displacement}
+use Rattle.book.specs.declared.Entry.{Entry}
+use Rattle.book.specs.Book.{Record, Book, bookOf}
+use Rattle.book.specs.Writing.{fairAll}
+use Rattle.fields.specs.Fields.{overField}
+use Rattle.load.specs.declared.Loaded.the-variants.{Stored, Broken, Outside, Over}
+use Rattle.load.specs.Load.{Outcome, bytesStored, firstCard, outside, roomIn, loading}
+use Rattle.load.proofs.Laws.{first-hit, first-miss, first-none, none-fails}
+use Rattle.theorems.specs.Moved.{movedEntry}
+use Rattle.theorems.specs.Judged.{NoneFails, FirstFails, entryOver}
+use Rattle.theorems.proofs.Loads.{Load, load, firstOutside, firstOver, fair-first, read-fair}
+use Rattle.theorems.proofs.Loads.Load.{isBroken, isOutside, isOver, isEntryOver, isStored}
+
+-- THE FIRST RECORD THAT FAILS A TEST
+
+module _ (fails : Record → Bool) where
+  none-before : NoneFails fails []
+  none-before r m = absurd (List·Memᴰ·not-nil m)
+
+  none-with : (r : Record) (rs : List Record) → fails r ≡ false → NoneFails fails rs → NoneFails fails (r ∷ rs)
+  none-with r rs e others q m = go (List·Memᴰ·cases-cons m)
+    where
+      go : (q ≡ r) ⊎ List·Memᴰ q rs → fails q ≡ false
+      go (inl f) = ap fails f ∙ e
+      go (inr x) = others q x
+
+  -- records of a book have cards from 1 on: 0 is no card, so that none fails
+  none-failing : (rs : List Record) (last : ℕ) → fairAll last rs ≡ true → firstCard fails rs ≡ 0 → NoneFails fails rs
+  none-failing [] last f e = none-before
+  none-failing (r ∷ rs) last f e =
+      let (is, others) = fair-first last r rs f in
+      let rise = is .rise in
+      let (passes, rest) = none-fails fails r rs (omega arith) e in
+      none-with r rs passes (none-failing rs (r .card) others rest)
+
+  no-card : (rs : List Record) → NoneFails fails rs → firstCard fails rs ≡ 0
+  no-card [] h = first-none fails
+  no-card (r ∷ rs) h = first-miss fails r rs (h r (List·Memᴰ·head refl)) ∙ no-card rs (λ q m. h q (List·Memᴰ·tail m))
+
+  first-failing : (rs : List Record) → (firstCard fails rs ≡ 0 → ⊥) → FirstFails fails rs (firstCard fails rs)
+  first-failing [] n = absurd (n (first-none fails))
+  first-failing (r ∷ rs) n = go (fails r) refl (first-failing rs)
+    where
+      go : (b : Bool) → fails r ≡ b → ((firstCard fails rs ≡ 0 → ⊥) → FirstFails fails rs (firstCard fails rs)) → FirstFails fails (r ∷ rs) (firstCard fails (r ∷ rs))
+      go true e ih = record { before = []; first = r; later = rs; records = refl; number = sym (first-hit fails r rs e); failing = e; others = none-before }
+      go false e ih =
+          let same = first-miss fails r rs e in
+          let x = ih (λ z. n (same ∙ z)) in
+          record {
+            before = r ∷ x .before;
+            first = x .first;
+            later = x .later;
+            records = ap (λ l. r ∷ l) (x .records);
+            number = x .number ∙ sym same;
+            failing = x .failing;
+            others = none-with r (x .before) e (x .others);
+          }
+
+-- EACH ANSWER
+
+module _ (s : List ℕ) (d : Displacement) (m : List ℕ) where
+  abbrev loaded : Outcome
+  loaded = loading s d m
+
+  abbrev fails51 : Record → Bool
+  fails51 = outside (d .0) (roomIn m)
+
+  abbrev fails52 : Record → Bool
+  fails52 = overField (d .0)
+
+  -- 50 where the bytes are no book
+  pub refused-50 : loaded .answer ≡ Broken ↔ (bookOf s ≡ none)
+  refused-50 = (there, back)
+    where
+      there : loaded .answer ≡ Broken → bookOf s ≡ none
+      there h = go (load s d m)
+        where
+          go : Load s d m → bookOf s ≡ none
+          go (isBroken f e) = f
+          go (isOutside b f n e) = let z : _≡_ {A = ℕ} 0 1 = cc in absurd (omega arith)
+          go (isOver b f i n e) = let z : _≡_ {A = ℕ} 0 1 = cc in absurd (omega arith)
+          go (isEntryOver b f i u o e) = let z : _≡_ {A = ℕ} 0 1 = cc in absurd (omega arith)
+          go (isStored b f i u o at x l e) = let z : _≡_ {A = ℕ} 0 1 = cc in absurd (omega arith)
+
+      back : bookOf s ≡ none → loaded .answer ≡ Broken
+      back h = go (load s d m)
+        where
+          go : Load s d m → loaded .answer ≡ Broken
+          go (isBroken f e) = ap (λ (x : Outcome). x .answer) e
+          go (isOutside b f n e) = let z : _≡_ {A = ℕ} 0 1 = cc in absurd (omega arith)
+          go (isOver b f i n e) = let z : _≡_ {A = ℕ} 0 1 = cc in absurd (omega arith)
+          go (isEntryOver b f i u o e) = let z : _≡_ {A = ℕ} 0 1 = cc in absurd (omega arith)
+          go (isStored b f i u o at x l e) = let z : _≡_ {A = ℕ} 0 1 = cc in absurd (omega arith)
+
+  -- 51 with the card of the first record whose text is outside storage
+  pub refused-51 : (card : ℕ) → loaded .answer ≡ Outside card → (b : Book) × (bookOf s ≡ some b) × (FirstFails fails51 (b .records) card)
+  refused-51 card h = go (load s d m)
+    where
+      go : Load s d m → (b : Book) × (bookOf s ≡ some b) × (FirstFails fails51 (b .records) card)
+      go (isBroken f e) = let z : _≡_ {A = ℕ} 0 1 = cc in absurd (omega arith)
+      go (isOutside b f n e) =
+          let is : firstOutside s d m b ≡ card = cc in
+          (b, f, subst (FirstFails fails51 (b .records)) is (first-failing fails51 (b .records) n))
+      go (isOver b f i n e) = let z : _≡_ {A = ℕ} 0 1 = cc in absurd (omega arith)
+      go (isEntryOver b f i u o e) = let z : _≡_ {A = ℕ} 0 1 = cc in absurd (omega arith)
+      go (isStored b f i u o at x l e) = let z : _≡_ {A = ℕ} 0 1 = cc in absurd (omega arith)
+
+  -- 52, where no record is outside, with the card of the first record that has a field over 65535, or 0 for the entry alone
+  pub refused-52 : (card : ℕ) → loaded .answer ≡ Over card
+      → (b : Book) × (bookOf s ≡ some b) × (NoneFails fails51 (b .records))
+      × (FirstFails fails52 (b .records) card ⊎ ((card ≡ 0) × (NoneFails fails52 (b .records)) × (entryOver (d .0) (b .entry) ≡ true)))
+  refused-52 card h = go (load s d m)
+    where
+      go : Load s d m
+          → (b : Book) × (bookOf s ≡ some b) × (NoneFails fails51 (b .records))
+          × (FirstFails fails52 (b .records) card ⊎ ((card ≡ 0) × (NoneFails fails52 (b .records)) × (entryOver (d .0) (b .entry) ≡ true)))
+      go (isBroken f e) = let z : _≡_ {A = ℕ} 0 1 = cc in absurd (omega arith)
+      go (isOutside b f n e) = let z : _≡_ {A = ℕ} 0 1 = cc in absurd (omega arith)
+      go (isOver b f i n e) =
+          let is : firstOver s d m b ≡ card = cc in
+          (b, f, none-failing fails51 (b .records) 0 (read-fair s b f) i, inl (subst (FirstFails fails52 (b .records)) is (first-failing fails52 (b .records) n)))
+      go (isEntryOver b f i u o e) =
+          let is : _≡_ {A = ℕ} 0 card = cc in
+          (b, f, none-failing fails51 (b .records) 0 (read-fair s b f) i, inr (sym is, none-failing fails52 (b .records) 0 (read-fair s b f) u, o))
+      go (isStored b f i u o at x l e) = let z : _≡_ {A = ℕ} 0 1 = cc in absurd (omega arith)
+
+  -- accepted if and only if the bytes are a book, no record is outside storage, and neither a field nor the entry is over 65535;
+  -- then the answer is the bytes of its records and the entry plus the displacement
+  pub load-accepted : (bytes : ℕ) (at : Entry)
+      → loaded .answer ≡ Stored bytes at
+      ↔ ((b : Book) × (bookOf s ≡ some b) × (NoneFails fails51 (b .records)) × (NoneFails fails52 (b .records)) × (entryOver (d .0) (b .entry) ≡ false)
+      × (bytes ≡ bytesStored (b .records)) × (at ≡ movedEntry (d .0) (b .entry)))
+  load-accepted bytes at = (there, back)
+    where
+      Goal : Type 0
+      Goal =
+          (b : Book) × (bookOf s ≡ some b) × (NoneFails fails51 (b .records)) × (NoneFails fails52 (b .records)) × (entryOver (d .0) (b .entry) ≡ false)
+          × (bytes ≡ bytesStored (b .records)) × (at ≡ movedEntry (d .0) (b .entry))
+
+      there : loaded .answer ≡ Stored bytes at → Goal
+      there h = go (load s d m)
+        where
+          go : Load s d m → Goal
+          go (isBroken f e) = let z : _≡_ {A = ℕ} 0 1 = cc in absurd (omega arith)
+          go (isOutside b f n e) = let z : _≡_ {A = ℕ} 0 1 = cc in absurd (omega arith)
+          go (isOver b f i n e) = let z : _≡_ {A = ℕ} 0 1 = cc in absurd (omega arith)
+          go (isEntryOver b f i u o e) = let z : _≡_ {A = ℕ} 0 1 = cc in absurd (omega arith)
+          go (isStored b f i u o w x l e) =
+              (b, f, none-failing fails51 (b .records) 0 (read-fair s b f) i, none-failing fails52 (b .records) 0 (read-fair s b f) u, o, cc, cc)
+
+      back : Goal → loaded .answer ≡ Stored bytes at
+      back (b, f, inside, under, low, size, to) = go (load s d m)
+        where
+          go : Load s d m → loaded .answer ≡ Stored bytes at
+          go (isBroken g e) = let z : _≡_ {A = ℕ} 0 1 = cc in absurd (omega arith)
+          go (isOutside c g n e) =
+              let same : c ≡ b = cc in
+              absurd (n (ap (firstOutside s d m) same ∙ no-card fails51 (b .records) inside))
+          go (isOver c g i n e) =
+              let same : c ≡ b = cc in
+              absurd (n (ap (firstOver s d m) same ∙ no-card fails52 (b .records) under))
+          go (isEntryOver c g i u o e) =
+              let same : c ≡ b = cc in
+              let z : _≡_ {A = ℕ} 0 1 = cc in absurd (omega arith)
+          go (isStored c g i u o w x l e) =
+              let same : c ≡ b = cc in
+              ap (λ (x : Outcome). x .answer) e ∙ cc

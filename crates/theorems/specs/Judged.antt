@@ -1,0 +1,28 @@
+-- How the records of a book are judged before a load: "51 and 52 give the card of the first such record; 52 for the entry alone gives 0".
+use Prim.Native.Nat.{ℕ, _+_}
+use mathlib.Core.List.{List, _∷_, _++_, List·Memᴰ}
+use mathlib.Core.Bool.{Bool, true, false}
+use mathlib.Core.Path.{_≡_}
+use lib.Dec.{ltb}
+use Rattle.book.specs.declared.Entry.{Entry}
+use Rattle.book.specs.declared.Entry.the-variants.{Absent, At}
+use Rattle.book.specs.Book.{Record}
+
+-- no record fails a test
+abbrev pub NoneFails : (Record → Bool) → List Record → Type 0
+NoneFails fails rs = (r : Record) → List·Memᴰ r rs → fails r ≡ false
+
+-- a record with this card fails a test, and none before it does
+pub record FirstFails (fails : Record → Bool) (rs : List Record) (card : ℕ) : Type 0 where
+  pub before : List Record
+  pub first : Record
+  pub later : List Record
+  pub records : rs ≡ before ++ first ∷ later
+  pub number : first .card ≡ card
+  pub failing : fails first ≡ true
+  pub others : NoneFails fails before
+
+-- the entry plus a displacement is over 65535
+abbrev pub entryOver : ℕ → Entry → Bool
+entryOver d Absent = false
+entryOver d (At e) = ltb 65535 (e .0 + d)
