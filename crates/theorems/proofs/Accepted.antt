@@ -1,55 +1,41 @@
 -- ACCEPTED EXACTLY WHEN (demand 1): "1, 2, 3; then pass one over the cards in order, then missing END, then pass two, then 30".
--- And the entry of an accepted source (demand 2): "END takes a relocatable operand (the entry) or none".
-use Prim.Native.Nat.{ℕ, zero, suc, _+_, _≤_, _<_}
+use Prim.Native.Nat.{ℕ, zero, suc, _+_, _≤_}
 use mathlib.Core.List.{List, [], _∷_}
 use mathlib.Core.Bool.{Bool, true, false}
 use mathlib.Core.Path.{_≡_, refl, sym, ap, _∙_}
-use mathlib.Core.Logic.{_↔_}
+use mathlib.Core.Logic.{_⊎_, inl, inr, _↔_}
 use native.Mathlib.Omega.{arith}
-use lib.ListN.{length, getD}
+use lib.ListN.{length}
 use lib.Dec.{eqb}
 use borrow.Author.Tests.{eqb-true, eqb-false}
 use Rattle.names.specs.declared.Entry.{Entry}
 use Rattle.names.specs.Names.{find}
 use Rattle.names.specs.Table.{zeroed}
-use Rattle.book.specs.declared.Entry.{Entry as BookEntry}
 use Rattle.book.specs.Book.{Book}
 use Rattle.book.specs.Writing.{bookBytes}
 use Rattle.cards.specs.Source.{sourceNo, cardsOf}
-use Rattle.statements.specs.Statements.{loneValue}
-use Rattle.lines.specs.declared.Line.{Line}
-use Rattle.lines.specs.declared.Reading.{Reading}
-use Rattle.lines.specs.declared.Reading.the-variants.{Comment, BadName, Statement}
-use Rattle.lines.specs.Lines.{readingOf}
-use Rattle.passes.specs.declared.Role.{Role}
-use Rattle.passes.specs.declared.Role.the-variants.{Starts, Equates, SetsCounter, Ends, Makes}
 use Rattle.passes.specs.declared.Phase.{Phase}
 use Rattle.passes.specs.declared.Phase.the-variants.{Before, Within, Ended}
 use Rattle.passes.specs.declared.Course.{Course}
-use Rattle.passes.specs.declared.Checked.the-variants.{Clean}
+use Rattle.passes.specs.declared.Checked.{Checked}
+use Rattle.passes.specs.declared.Checked.the-variants.{Clean, Bad}
 use Rattle.passes.specs.declared.Assembled.the-variants.{Made}
-use Rattle.passes.specs.Cards.{roleOf, operandsAt}
-use Rattle.passes.specs.One.{State, fresh, afterEndNo, oneNo, phaseAfter, readingStep, stepOne, endedAs, passOne}
-use Rattle.passes.specs.One.Passed.{through}
-use Rattle.passes.specs.Two.{outset, twoNo, stepTwo, checkTwo, entryBy, roleEntry, readingEntry, entryFrom, bookFrom}
-use Rattle.passes.specs.Assembly.{Outcome, afterTwo, assembled, workSize, outcomeOf, assembling}
-use Rattle.passes.specs.Assembly.Result.{made}
-use Rattle.passes.proofs.Turns.{pass-more, pass-end, pass-turn, check-more, check-end, check-turn}
-use Rattle.passes.proofs.Fine.{one-zero}
+use Rattle.passes.specs.One.{State, Passed, fresh, oneNo, stepOne, endedAs, passOne}
+use Rattle.passes.specs.One.Passed.{through, stopped}
+use Rattle.passes.specs.Two.{outset, twoNo, stepTwo, checkTwo, bookFrom}
+use Rattle.passes.specs.Assembly.{Outcome, afterTwo, afterOne, assembled, workSize, outcomeOf, assembling}
+use Rattle.passes.specs.Assembly.Result.{made, refused}
+use Rattle.passes.proofs.Turns.{pass-more, pass-stop, pass-end, pass-turn, check-more, check-stop, check-end, check-turn}
 use Rattle.passes.proofs.Assembly.{through-one, fits, no-source, through-call}
-use Rattle.theorems.specs.Grow.{behindOne, behindTwo, namesBy, lookIn, counterOne}
-use Rattle.theorems.proofs.Grow.{same-counters}
+use Rattle.theorems.specs.Grow.{behindOne, behindTwo, namesBy, lookIn}
+use Rattle.theorems.specs.Accepted.{oneAt, twoAt, endOne, NoneRefused, FirstRefused}
 use Rattle.theorems.proofs.Made.{both-passed}
 use Rattle.theorems.proofs.Called.{Way, way}
 use Rattle.theorems.proofs.Called.Way.{atOnce, byCards, tooLong, whole}
 
 -- PASS ONE, card by card
 
--- no card is refused in the state that pass one has before it
-abbrev OneFine : State → List (List ℕ) → Type 0
-OneFine st ss = (k : ℕ) → k < length ss → oneNo (behindOne k st ss) (getD ss k []) ≡ 0
-
-pass-all : (ss : List (List ℕ)) (k : ℕ) (st a : State) → passOne k st ss ≡ through a → OneFine st ss × (behindOne (length ss) st ss ≡ a) × (a .phase ≡ Ended)
+pub pass-all : (ss : List (List ℕ)) (k : ℕ) (st a : State) → passOne k st ss ≡ through a → NoneRefused (oneAt st ss) (length ss) × (behindOne (length ss) st ss ≡ a) × (a .phase ≡ Ended)
 unfolding behindOne
 pass-all [] k st a h = let (same, phase) = go (st .phase) refl (sym (pass-end k st) ∙ h) in (λ n i. absurd (omega arith), same, phase)
   where
@@ -62,11 +48,11 @@ pass-all (s ∷ ss) k st a h =
     let (each, end, phase) = pass-all ss (k + 1) (stepOne st s) a (t .1) in
     (go (t .0) each, end, phase)
   where
-    go : oneNo st s ≡ 0 → OneFine (stepOne st s) ss → OneFine st (s ∷ ss)
+    go : oneNo st s ≡ 0 → NoneRefused (oneAt (stepOne st s) ss) (length ss) → NoneRefused (oneAt st (s ∷ ss)) (length (s ∷ ss))
     go e each zero i = e
     go e each (suc n) i = each n (omega arith)
 
-all-pass : (ss : List (List ℕ)) (k : ℕ) (st : State) → OneFine st ss → behindOne (length ss) st ss .phase ≡ Ended → passOne k st ss ≡ through (behindOne (length ss) st ss)
+all-pass : (ss : List (List ℕ)) (k : ℕ) (st : State) → NoneRefused (oneAt st ss) (length ss) → behindOne (length ss) st ss .phase ≡ Ended → passOne k st ss ≡ through (behindOne (length ss) st ss)
 unfolding behindOne
 all-pass [] k st each e = pass-end k st ∙ ap (λ p. endedAs p st) e
 all-pass (s ∷ ss) k st each e =
@@ -74,16 +60,13 @@ all-pass (s ∷ ss) k st each e =
 
 -- PASS TWO, card by card
 
-abbrev TwoFine : (ℕ → Entry) → Course → List (List ℕ) → Type 0
-TwoFine look c ss = (k : ℕ) → k < length ss → twoNo look (behindTwo look k c ss) (getD ss k []) ≡ 0
-
-check-all : (look : ℕ → Entry) (ss : List (List ℕ)) (k : ℕ) (c : Course) → checkTwo look k c ss ≡ Clean → TwoFine look c ss
+check-all : (look : ℕ → Entry) (ss : List (List ℕ)) (k : ℕ) (c : Course) → checkTwo look k c ss ≡ Clean → NoneRefused (twoAt look c ss) (length ss)
 unfolding behindTwo
 check-all look [] k c h n i = absurd (omega arith)
 check-all look (s ∷ ss) k c h zero i = check-turn look k c s ss h .0
 check-all look (s ∷ ss) k c h (suc n) i = check-all look ss (k + 1) (stepTwo look c s) (check-turn look k c s ss h .1) n (omega arith)
 
-all-check : (look : ℕ → Entry) (ss : List (List ℕ)) (k : ℕ) (c : Course) → TwoFine look c ss → checkTwo look k c ss ≡ Clean
+all-check : (look : ℕ → Entry) (ss : List (List ℕ)) (k : ℕ) (c : Course) → NoneRefused (twoAt look c ss) (length ss) → checkTwo look k c ss ≡ Clean
 unfolding behindTwo
 all-check look [] k c each = check-end look k c
 all-check look (s ∷ ss) k c each =
@@ -91,21 +74,16 @@ all-check look (s ∷ ss) k c each =
 
 -- THE CARDS OF A SOURCE
 
--- where pass one stands behind all cards
-abbrev pub endOne : List (List ℕ) → State
-endOne ss = behindOne (length ss) fresh ss
-
 -- made if and only if pass one refuses no card, an END has been, and pass two refuses no card;
 -- then the names are those that pass one has at the end, and the book is that of pass two over them
 pub cards-accepted : (ss : List (List ℕ)) (n : ℕ) (b : Book)
     → assembled ss ≡ made n b
-    ↔ (((k : ℕ) → k < length ss → oneNo (behindOne k fresh ss) (getD ss k []) ≡ 0) × (endOne ss .phase ≡ Ended)
-    × ((k : ℕ) → k < length ss → twoNo (lookIn ss) (behindTwo (lookIn ss) k outset ss) (getD ss k []) ≡ 0)
+    ↔ (NoneRefused (oneAt fresh ss) (length ss) × (endOne ss .phase ≡ Ended) × NoneRefused (twoAt (lookIn ss) outset ss) (length ss)
     × (n ≡ length (endOne ss .names)) × (b ≡ bookFrom (lookIn ss) ss))
 cards-accepted ss n b = (there, back)
   where
     Goal : Type 0
-    Goal = OneFine fresh ss × (endOne ss .phase ≡ Ended) × TwoFine (lookIn ss) outset ss × (n ≡ length (endOne ss .names)) × (b ≡ bookFrom (lookIn ss) ss)
+    Goal = NoneRefused (oneAt fresh ss) (length ss) × (endOne ss .phase ≡ Ended) × NoneRefused (twoAt (lookIn ss) outset ss) (length ss) × (n ≡ length (endOne ss .names)) × (b ≡ bookFrom (lookIn ss) ss)
 
     there : assembled ss ≡ made n b → Goal
     there h =
@@ -127,6 +105,111 @@ cards-accepted ss n b = (there, back)
         through-one ss (endOne ss) (sym one) ∙ ap (afterTwo ss (endOne ss .names)) two
         ∙ ap (λ x. made (length (endOne ss .names)) x) (ap (λ look. bookFrom look ss) (sym all) ∙ sym book)
         ∙ ap (λ x. made x b) (sym count)
+
+-- REFUSED, and at which card
+
+-- the first of the cards behind the first, which is let through
+behind-first : (k : ℕ) (numberAt : ℕ → ℕ) (cards number card : ℕ) → numberAt 0 ≡ 0 → FirstRefused (k + 1) (λ n. numberAt (suc n)) cards number card
+    → FirstRefused k numberAt (suc cards) number card
+behind-first k numberAt cards number card e x =
+    let inside = x .inside in
+    let is = x .is in
+    record { place = suc (x .place); inside = omega arith; is = omega arith; here = x .here; refuses = x .refuses; others = go }
+  where
+    go : NoneRefused numberAt (suc (x .place))
+    go zero i = e
+    go (suc n) i = x .others n (omega arith)
+
+module _ (number card : ℕ) where
+  pass-first : (ss : List (List ℕ)) (k : ℕ) (st : State) → passOne k st ss ≡ stopped number card
+      → FirstRefused k (oneAt st ss) (length ss) number card
+      ⊎ (NoneRefused (oneAt st ss) (length ss) × (behindOne (length ss) st ss .phase ≡ Ended → ⊥) × (number ≡ 9) × (card ≡ 0))
+  unfolding behindOne
+  pass-first [] k st h = inr (go (st .phase) refl (sym (pass-end k st) ∙ h))
+    where
+      go : (p : Phase) → st .phase ≡ p → endedAs p st ≡ stopped number card → NoneRefused (oneAt st []) 0 × (st .phase ≡ Ended → ⊥) × (number ≡ 9) × (card ≡ 0)
+      go Before e h = (λ n i. absurd (omega arith), λ f. let z : _≡_ {A = ℕ} 0 1 = cc in omega arith, cc, cc)
+      go Within e h = (λ n i. absurd (omega arith), λ f. let z : _≡_ {A = ℕ} 0 1 = cc in omega arith, cc, cc)
+      go Ended e h = let z : _≡_ {A = ℕ} 0 1 = cc in absurd (omega arith)
+  pass-first (s ∷ ss) k st h = go (eqb (oneNo st s) 0) refl (pass-first ss (k + 1) (stepOne st s))
+    where
+      Goal : Type 0
+      Goal =
+          FirstRefused k (oneAt st (s ∷ ss)) (length (s ∷ ss)) number card
+          ⊎ (NoneRefused (oneAt st (s ∷ ss)) (length (s ∷ ss)) × (behindOne (length (s ∷ ss)) st (s ∷ ss) .phase ≡ Ended → ⊥) × (number ≡ 9) × (card ≡ 0))
+
+      Rest : Type 0
+      Rest =
+          FirstRefused (k + 1) (oneAt (stepOne st s) ss) (length ss) number card
+          ⊎ (NoneRefused (oneAt (stepOne st s) ss) (length ss) × (behindOne (length ss) (stepOne st s) ss .phase ≡ Ended → ⊥) × (number ≡ 9) × (card ≡ 0))
+
+      none : oneNo st s ≡ 0 → NoneRefused (oneAt (stepOne st s) ss) (length ss) → NoneRefused (oneAt st (s ∷ ss)) (length (s ∷ ss))
+      none e each zero i = e
+      none e each (suc n) i = each n (omega arith)
+
+      on : oneNo st s ≡ 0 → Rest → Goal
+      on e (inl x) = inl (behind-first k (oneAt st (s ∷ ss)) (length ss) number card e x)
+      on e (inr (each, end, nine, at)) = inr (none e each, end, nine, at)
+
+      go : (b : Bool) → eqb (oneNo st s) 0 ≡ b → (passOne (k + 1) (stepOne st s) ss ≡ stopped number card → Rest) → Goal
+      go true e ih = let z = eqb-true (oneNo st s) 0 e in on z (ih (sym (pass-more k st s ss z) ∙ h))
+      go false e ih =
+          let n = eqb-false (oneNo st s) 0 e in
+          let q = sym (pass-stop k st s ss n) ∙ h in
+          let is : oneNo st s ≡ number = cc in
+          let at : k ≡ card = cc in
+          inl (record { place = 0; inside = omega arith; is = omega arith; here = is; refuses = λ z. n (is ∙ z); others = λ i l. absurd (omega arith) })
+
+  check-first : (look : ℕ → Entry) (ss : List (List ℕ)) (k : ℕ) (c : Course) → checkTwo look k c ss ≡ Bad number card → FirstRefused k (twoAt look c ss) (length ss) number card
+  unfolding behindTwo
+  check-first look [] k c h = let e = check-end look k c in let z : _≡_ {A = ℕ} 0 1 = cc in absurd (omega arith)
+  check-first look (s ∷ ss) k c h = go (eqb (twoNo look c s) 0) refl (check-first look ss (k + 1) (stepTwo look c s))
+    where
+      go : (b : Bool) → eqb (twoNo look c s) 0 ≡ b
+          → (checkTwo look (k + 1) (stepTwo look c s) ss ≡ Bad number card → FirstRefused (k + 1) (twoAt look (stepTwo look c s) ss) (length ss) number card)
+          → FirstRefused k (twoAt look c (s ∷ ss)) (length (s ∷ ss)) number card
+      go true e ih =
+          let z = eqb-true (twoNo look c s) 0 e in
+          behind-first k (twoAt look c (s ∷ ss)) (length ss) number card z (ih (sym (check-more look k c s ss z) ∙ h))
+      go false e ih =
+          let n = eqb-false (twoNo look c s) 0 e in
+          let q = sym (check-stop look k c s ss n) ∙ h in
+          let is : twoNo look c s ≡ number = cc in
+          let at : k ≡ card = cc in
+          record { place = 0; inside = omega arith; is = omega arith; here = is; refuses = λ z. n (is ∙ z); others = λ i l. absurd (omega arith) }
+
+  -- refused: with the number and the card of the first card that pass one refuses; or 9 with card 0, where it refuses none and no END has been;
+  -- or, where END has been, with those of the first card that pass two refuses
+  pub cards-refused : (ss : List (List ℕ)) → assembled ss ≡ refused number card
+      → FirstRefused 1 (oneAt fresh ss) (length ss) number card
+      ⊎ ((NoneRefused (oneAt fresh ss) (length ss) × (endOne ss .phase ≡ Ended → ⊥) × (number ≡ 9) × (card ≡ 0))
+      ⊎ (NoneRefused (oneAt fresh ss) (length ss) × (endOne ss .phase ≡ Ended) × FirstRefused 1 (twoAt (lookIn ss) outset ss) (length ss) number card))
+  unfolding assembled
+  cards-refused ss h = first (passOne 1 fresh ss) refl h
+    where
+      Goal : Type 0
+      Goal =
+          FirstRefused 1 (oneAt fresh ss) (length ss) number card
+          ⊎ ((NoneRefused (oneAt fresh ss) (length ss) × (endOne ss .phase ≡ Ended → ⊥) × (number ≡ 9) × (card ≡ 0))
+          ⊎ (NoneRefused (oneAt fresh ss) (length ss) × (endOne ss .phase ≡ Ended) × FirstRefused 1 (twoAt (lookIn ss) outset ss) (length ss) number card))
+
+      by : FirstRefused 1 (oneAt fresh ss) (length ss) number card ⊎ (NoneRefused (oneAt fresh ss) (length ss) × (endOne ss .phase ≡ Ended → ⊥) × (number ≡ 9) × (card ≡ 0)) → Goal
+      by (inl x) = inl x
+      by (inr x) = inr (inl x)
+
+      second : (st : State) → passOne 1 fresh ss ≡ through st → (x : Checked) → checkTwo (find (st .names)) 1 outset ss ≡ x → afterTwo ss (st .names) x ≡ refused number card → Goal
+      second st one Clean two h = let z : _≡_ {A = ℕ} 0 1 = cc in absurd (omega arith)
+      second st one (Bad n k) two h =
+          let (each, end, phase) = pass-all ss 1 fresh st one in
+          let all : lookIn ss ≡ find (st .names) = ap (λ x. find (namesBy x)) one in
+          let bad : checkTwo (find (st .names)) 1 outset ss ≡ Bad number card = cc in
+          inr (inr (each, ap (λ (x : State). x .phase) end ∙ phase, check-first (lookIn ss) ss 1 outset (ap (λ look. checkTwo look 1 outset ss) all ∙ bad)))
+
+      first : (p : Passed) → passOne 1 fresh ss ≡ p → afterOne ss p ≡ refused number card → Goal
+      first (through st) one h = second st one (checkTwo (find (st .names)) 1 outset ss) refl h
+      first (stopped n k) one h =
+          let stop : passOne 1 fresh ss ≡ stopped number card = cc in
+          by (pass-first ss 1 fresh stop)
 
 -- THE CALL
 
@@ -168,102 +251,3 @@ call-accepted width source work out bytes names = (there, back)
         ap (λ (x : Outcome). x .answer) (through-call width source work out e w ∙ ap (λ x. outcomeOf x (zeroed workSize work) out) f
         ∙ fits names (bookBytes b) (zeroed workSize work) out (omega arith))
         ∙ ap (λ x. Made x names) (sym size)
-
--- THE ENTRY
-
--- END is the last card: one behind it would be refused by 9
-ended-last : (ss : List (List ℕ)) (k : ℕ) (st a : State) → passOne k st ss ≡ through a → st .phase ≡ Ended → length ss ≡ 0
-ended-last [] k st a h e = refl
-ended-last (s ∷ ss) k st a h e =
-    let no = ap afterEndNo (sym e) ∙ one-zero st s (pass-turn k st a s ss h .0) .0 in
-    absurd (omega arith)
-
--- a card that is not END leaves the entry to the others
-not-end : (look : ℕ → Entry) (c : Course) (st : State) (s : List ℕ) (rest : BookEntry) → (stepOne st s .phase ≡ Ended → ⊥) → readingEntry look c s (readingOf s) rest ≡ rest
-unfolding stepOne
-not-end look c st s rest n = go (readingOf s) refl
-  where
-    go : (x : Reading) → readingOf s ≡ x → readingEntry look c s x rest ≡ rest
-    go Comment q = refl
-    go BadName q = refl
-    go (Statement l) q = by (roleOf (l .operation)) refl
-      where
-        by : (r : Role) → roleOf (l .operation) ≡ r → roleEntry r (loneValue (operandsAt look (c .counter) s l)) rest ≡ rest
-        by Starts e = refl
-        by Equates e = refl
-        by SetsCounter e = refl
-        by Ends e = absurd (n (ap (λ x. readingStep st s x .phase) q ∙ ap (λ r. phaseAfter r (st .phase)) e))
-        by Makes e = refl
-
--- behind a card an END has been, where before it none had: the card is END
-becomes-ended : (st : State) (s : List ℕ) → (st .phase ≡ Ended → ⊥) → stepOne st s .phase ≡ Ended → (l : Line) × (readingOf s ≡ Statement l) × (roleOf (l .operation) ≡ Ends)
-unfolding stepOne
-becomes-ended st s n h = go (readingOf s) refl h
-  where
-    go : (x : Reading) → readingOf s ≡ x → readingStep st s x .phase ≡ Ended → (l : Line) × (readingOf s ≡ Statement l) × (roleOf (l .operation) ≡ Ends)
-    go Comment q h = absurd (n h)
-    go BadName q h = absurd (n h)
-    go (Statement l) q h = by (roleOf (l .operation)) refl h
-      where
-        by : (r : Role) → roleOf (l .operation) ≡ r → phaseAfter r (st .phase) ≡ Ended → (l : Line) × (readingOf s ≡ Statement l) × (roleOf (l .operation) ≡ Ends)
-        by Starts e h = let z : _≡_ {A = ℕ} 0 1 = cc in absurd (omega arith)
-        by Equates e h = absurd (n h)
-        by SetsCounter e h = absurd (n h)
-        by Ends e h = (l, q, e)
-        by Makes e h = absurd (n h)
-
-end-at : (ss : List (List ℕ)) (k : ℕ) (st a : State) → passOne k st ss ≡ through a → (st .phase ≡ Ended → ⊥)
-    → (n : ℕ) × (l : Line) × (length ss ≡ suc n) × (readingOf (getD ss n []) ≡ Statement l) × (roleOf (l .operation) ≡ Ends)
-unfolding behindOne
-end-at [] k st a h n =
-    let (each, same, phase) = pass-all [] k st a h in
-    absurd (n (ap (λ (x : State). x .phase) same ∙ phase))
-end-at (s ∷ ss) k st a h n =
-    let t = pass-turn k st a s ss h in
-    go (stepOne st s .phase) refl (ended-last ss (k + 1) (stepOne st s) a (t .1)) (end-at ss (k + 1) (stepOne st s) a (t .1))
-  where
-    Goal : Type 0
-    Goal = (n : ℕ) × (l : Line) × (length (s ∷ ss) ≡ suc n) × (readingOf (getD (s ∷ ss) n []) ≡ Statement l) × (roleOf (l .operation) ≡ Ends)
-
-    Rest : Type 0
-    Rest = (n : ℕ) × (l : Line) × (length ss ≡ suc n) × (readingOf (getD ss n []) ≡ Statement l) × (roleOf (l .operation) ≡ Ends)
-
-    on : Rest → Goal
-    on (n, l, e, q, r) = (suc n, l, ap suc e, q, r)
-
-    go : (p : Phase) → stepOne st s .phase ≡ p → (stepOne st s .phase ≡ Ended → length ss ≡ 0) → ((stepOne st s .phase ≡ Ended → ⊥) → Rest) → Goal
-    go Before e last rest = on (rest (λ f. let z : _≡_ {A = ℕ} 0 1 = cc in omega arith))
-    go Within e last rest = on (rest (λ f. let z : _≡_ {A = ℕ} 0 1 = cc in omega arith))
-    go Ended e last rest = let (l, q, r) = becomes-ended st s n e in (0, l, ap suc (last e), q, r)
-
-entry-at : (look : ℕ → Entry) (a : State) (n : ℕ) (ss : List (List ℕ)) (k : ℕ) (st : State) (c : Course) → passOne k st ss ≡ through a → n < length ss
-    → (l : Line) → readingOf (getD ss n []) ≡ Statement l → roleOf (l .operation) ≡ Ends
-    → entryFrom look c ss ≡ entryBy (loneValue (operandsAt look (behindTwo look n c ss .counter) (getD ss n []) l))
-unfolding behindTwo entryFrom
-entry-at look a n [] k st c h i l q r = absurd (omega arith)
-entry-at look a zero (s ∷ ss) k st c h i l q r =
-    ap (λ x. readingEntry look c s x (entryFrom look (stepTwo look c s) ss)) q
-    ∙ ap (λ x. roleEntry x (loneValue (operandsAt look (c .counter) s l)) (entryFrom look (stepTwo look c s) ss)) r
-entry-at look a (suc n) (s ∷ ss) k st c h i l q r =
-    let t = pass-turn k st a s ss h in
-    not-end look c st s (entryFrom look (stepTwo look c s) ss) (λ e. let none = ended-last ss (k + 1) (stepOne st s) a (t .1) e in omega arith)
-    ∙ entry-at look a n ss (k + 1) (stepOne st s) (stepTwo look c s) (t .1) (omega arith) l q r
-
--- the last card of an accepted source is END
-pub end-last : (ss : List (List ℕ)) (n : ℕ) (b : Book) → assembled ss ≡ made n b
-    → (k : ℕ) × (l : Line) × (length ss ≡ suc k) × (readingOf (getD ss k []) ≡ Statement l) × (roleOf (l .operation) ≡ Ends)
-end-last ss n b h =
-    let p = both-passed ss n b h in
-    end-at ss 1 fresh (p .end) (p .one) (λ e. let z : _≡_ {A = ℕ} 0 1 = cc in omega arith)
-
--- the entry of an accepted source is what the operand of its END comes to: none where that is absent
-pub entry-exact : (ss : List (List ℕ)) (n : ℕ) (b : Book) → assembled ss ≡ made n b → (k : ℕ) → k < length ss
-    → (l : Line) → readingOf (getD ss k []) ≡ Statement l → roleOf (l .operation) ≡ Ends
-    → b .entry ≡ entryBy (loneValue (operandsAt (lookIn ss) (counterOne ss k) (getD ss k []) l))
-unfolding bookFrom
-entry-exact ss n b h k i l q r =
-    let p = both-passed ss n b h in
-    let all : lookIn ss ≡ find (p .end .names) = ap (λ x. find (namesBy x)) (p .one) in
-    ap (λ (x : Book). x .entry) (p .book) ∙ ap (λ look. entryFrom look outset ss) (sym all)
-    ∙ entry-at (lookIn ss) (p .end) k ss 1 fresh outset (p .one) i l q r
-    ∙ ap (λ here. entryBy (loneValue (operandsAt (lookIn ss) here (getD ss k []) l))) (same-counters ss (p .end) (p .one) k)

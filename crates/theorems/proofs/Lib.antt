@@ -17,6 +17,7 @@ pub mod Untouched
 pub mod Stored
 pub mod Judged
 pub mod Accepted
+pub mod Entry
 pub mod ToldOnce
 mod RaisedOperands
 mod RaisedStatements

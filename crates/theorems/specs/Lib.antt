@@ -7,3 +7,4 @@ pub mod Raised
 pub mod Moved
 pub mod ToldOnce
 pub mod Judged
+pub mod Accepted
