@@ -27,7 +27,7 @@ use Rattle.lines.specs.Lines.{readingOf}
 use Rattle.lines.proofs.Laws.{line-within}
 use Rattle.passes.specs.declared.Phase.{Phase}
 use Rattle.passes.specs.declared.Role.{Role}
-use Rattle.passes.specs.declared.Role.the-variants.{Starts, Equates, SetsCounter, Ends, Makes}
+use Rattle.passes.specs.declared.Role.the-variants.{Starts, Equates, SetsCounter, Ends, Advances}
 use Rattle.passes.specs.Cards.{roleOf, operandsAt, counterBy, counterAfter, nameValueBy, nameValue, nameLength}
 use Rattle.passes.specs.One.{State, mostNames, ifNamed, earlyBy, earlyNo, over, overNo, lineNo, entered, readingStep, oneNo, stepOne, endedAs, passOne}
 use Rattle.passes.specs.One.Passed.{stopped}
@@ -43,21 +43,21 @@ early-same Starts op x = refl
 early-same Equates op x = refl
 early-same SetsCounter op x = refl
 early-same Ends op x = refl
-early-same Makes op x = refl
+early-same Advances op x = refl
 
 value-same : (r : Role) (x : Operands) (counter : ℕ) (l : Line) → nameValueBy r (earlyOperands r x) counter l ≡ nameValueBy r x counter l
 value-same Starts x counter l = refl
 value-same Equates x counter l = refl
 value-same SetsCounter x counter l = refl
 value-same Ends x counter l = refl
-value-same Makes x counter l = refl
+value-same Advances x counter l = refl
 
 counter-same : (r : Role) (x : Operands) (counter : ℕ) (l : Line) → counterBy r (earlyOperands r x) counter l ≡ counterBy r x counter l
 counter-same Starts x counter l = refl
 counter-same Equates x counter l = refl
 counter-same SetsCounter x counter l = refl
 counter-same Ends x counter l = refl
-counter-same Makes x counter l = refl
+counter-same Advances x counter l = refl
 
 module _ (look : ℕ → Entry) (counter : ℕ) (s : List ℕ) (l : Line) (r : Role) (x : Operands) (is : r ≡ roleOf (l .operation)) (of : x ≡ earlyOperands r (operandsAt look counter s l)) where
   pub early-is : earlyBy r (l .operation) x ≡ earlyNo look counter s l

@@ -12,7 +12,7 @@ use Rattle.statements.specs.declared.operands.Operands.{Operands}
 use Rattle.statements.specs.declared.operands.Operands.the-variants.{None}
 use Rattle.lines.specs.declared.Line.{Line}
 use Rattle.passes.specs.declared.Role.{Role}
-use Rattle.passes.specs.declared.Role.the-variants.{Starts, Equates, SetsCounter, Ends, Makes}
+use Rattle.passes.specs.declared.Role.the-variants.{Starts, Equates, SetsCounter, Ends, Advances}
 use Rattle.passes.specs.Cards.{nameValueBy, nameLength}
 use Rattle.passes.specs.One.{State, Passed, mostNames, ifNamed, mFits, over}
 use Rattle.passes.specs.One.Passed.{through, stopped}
@@ -40,7 +40,7 @@ earlyOperands Starts x = None
 earlyOperands Equates x = x
 earlyOperands SetsCounter x = x
 earlyOperands Ends x = None
-earlyOperands Makes x = None
+earlyOperands Advances x = None
 
 -- 20 of a name
 abbrev pub overBy : Role → Operands → ℕ → Line → ℕ

@@ -71,7 +71,7 @@ fn early_operands(
         Role::Equates => operands_at(l, card, table, count, counter),
         Role::SetsCounter => operands_at(l, card, table, count, counter),
         Role::Ends => Operands::None,
-        Role::Makes => Operands::None,
+        Role::Advances => Operands::None,
     }
 }
 
@@ -144,7 +144,7 @@ fn phase_after(role: Role, p: Phase) -> Phase
         Role::Equates => p,
         Role::SetsCounter => p,
         Role::Ends => Phase::Ended,
-        Role::Makes => p,
+        Role::Advances => p,
     }
 }
 

@@ -66,7 +66,7 @@ pub fn amount_named(role: Role, x: Operands, counter: u32, l: Line) -> usize
         Role::Equates => wide16(amount_of(lone_value(x))),
         Role::SetsCounter => counter as usize,
         Role::Ends => counter as usize,
-        Role::Makes => place_named(counter, shape),
+        Role::Advances => place_named(counter, shape),
     }
 }
 
@@ -81,7 +81,7 @@ fn name_value(role: Role, x: Operands, counter: u32, l: Line) -> Value
         Role::Equates => lone_value(x),
         Role::SetsCounter => Value::Relocatable(Relocatable(place)),
         Role::Ends => Value::Relocatable(Relocatable(place)),
-        Role::Makes => Value::Relocatable(Relocatable(place)),
+        Role::Advances => Value::Relocatable(Relocatable(place)),
     }
 }
 

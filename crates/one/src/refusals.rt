@@ -39,7 +39,7 @@ fn again_no(r: Role) -> u8
         Role::Equates => 0,
         Role::SetsCounter => 0,
         Role::Ends => 0,
-        Role::Makes => 0,
+        Role::Advances => 0,
     }
 }
 
@@ -51,7 +51,7 @@ fn missing_no(r: Role) -> u8
         Role::Equates => 13,
         Role::SetsCounter => 13,
         Role::Ends => 13,
-        Role::Makes => 13,
+        Role::Advances => 13,
     }
 }
 
@@ -86,7 +86,7 @@ pub fn early_by(r: Role, op: Operation, x: Operands) -> u8
         Role::Equates => expressions_no(op, x),
         Role::SetsCounter => expressions_no(op, x),
         Role::Ends => 0,
-        Role::Makes => 0,
+        Role::Advances => 0,
     }
 }
 

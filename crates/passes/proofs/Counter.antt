@@ -15,7 +15,7 @@ use Rattle.lines.specs.declared.Reading.the-variants.{Statement}
 use Rattle.lines.specs.Lines.{readingOf, operandIn}
 use Rattle.lines.proofs.Laws.{line-shape}
 use Rattle.passes.specs.declared.Role.{Role}
-use Rattle.passes.specs.declared.Role.the-variants.{Starts, Equates, SetsCounter, Ends, Makes}
+use Rattle.passes.specs.declared.Role.the-variants.{Starts, Equates, SetsCounter, Ends, Advances}
 use Rattle.passes.specs.Cards.{roleOf, startValue, operandsAt, counterBy, counterAfter}
 
 -- START's value has 16 bits
@@ -46,4 +46,4 @@ counter-most look counter s l e most a b = go (roleOf (l .operation))
     go Equates = omega arith
     go SetsCounter = omega (arith, lone-fits look counter (operandIn s l) (l .shape))
     go Ends = omega arith
-    go Makes = b
+    go Advances = b

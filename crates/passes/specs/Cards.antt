@@ -16,28 +16,28 @@ use Rattle.statements.specs.Statements.{loneValue}
 use Rattle.lines.specs.declared.Line.{Line}
 use Rattle.lines.specs.Lines.{operandIn}
 use Rattle.passes.specs.declared.Role.{Role}
-use Rattle.passes.specs.declared.Role.the-variants.{Starts, Equates, SetsCounter, Ends, Makes}
+use Rattle.passes.specs.declared.Role.the-variants.{Starts, Equates, SetsCounter, Ends, Advances}
 
 abbrev pub roleOf : Operation → Role
-roleOf Unknown = Makes
+roleOf Unknown = Advances
 roleOf Start = Starts
 roleOf Equ = Equates
 roleOf Org = SetsCounter
-roleOf Dc = Makes
-roleOf Ds = Makes
-roleOf Using = Makes
-roleOf Drop = Makes
+roleOf Dc = Advances
+roleOf Ds = Advances
+roleOf Using = Advances
+roleOf Drop = Advances
 roleOf End = Ends
-roleOf (Decimal low) = Makes
-roleOf (Characters low) = Makes
-roleOf Move = Makes
-roleOf (MoveOf item) = Makes
-roleOf (OneAddress low) = Makes
-roleOf (Branch low) = Makes
-roleOf LoadAddress = Makes
-roleOf (BranchOn q) = Makes
-roleOf Jump = Makes
-roleOf (JumpOn q) = Makes
+roleOf (Decimal low) = Advances
+roleOf (Characters low) = Advances
+roleOf Move = Advances
+roleOf (MoveOf item) = Advances
+roleOf (OneAddress low) = Advances
+roleOf (Branch low) = Advances
+roleOf LoadAddress = Advances
+roleOf (BranchOn q) = Advances
+roleOf Jump = Advances
+roleOf (JumpOn q) = Advances
 
 -- START: "one decimal or hex term, or absent for 0"
 abbrev pub startValue : Shape → ℕ
@@ -63,7 +63,7 @@ counterBy Starts x counter l = startValue (l .shape)
 counterBy Equates x counter l = counter
 counterBy SetsCounter x counter l = amountOf (loneValue x)
 counterBy Ends x counter l = counter
-counterBy Makes x counter l = counter + sizeOf (l .operation) (l .shape)
+counterBy Advances x counter l = counter + sizeOf (l .operation) (l .shape)
 
 unfoldable pub counterAfter : (ℕ → Entry) → ℕ → List ℕ → Line → ℕ
 counterAfter look counter s l = counterBy (roleOf (l .operation)) (operandsAt look counter s l) counter l
@@ -90,7 +90,7 @@ nameValueBy Starts x counter l = Relocatable (record { 0 = startValue (l .shape)
 nameValueBy Equates x counter l = loneValue x
 nameValueBy SetsCounter x counter l = Relocatable (record { 0 = counter })
 nameValueBy Ends x counter l = Relocatable (record { 0 = counter })
-nameValueBy Makes x counter l = Relocatable (record { 0 = placeNamed counter (l .shape) })
+nameValueBy Advances x counter l = Relocatable (record { 0 = placeNamed counter (l .shape) })
 
 -- the value of a line's name, before any limit
 unfoldable pub nameValue : (ℕ → Entry) → ℕ → List ℕ → Line → Value

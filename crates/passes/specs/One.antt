@@ -23,7 +23,7 @@ use Rattle.lines.specs.declared.Reading.{Reading}
 use Rattle.lines.specs.declared.Reading.the-variants.{Comment, BadName, Statement}
 use Rattle.lines.specs.Lines.{readingOf, shapeNo}
 use Rattle.passes.specs.declared.Role.{Role}
-use Rattle.passes.specs.declared.Role.the-variants.{Starts, Equates, SetsCounter, Ends, Makes}
+use Rattle.passes.specs.declared.Role.the-variants.{Starts, Equates, SetsCounter, Ends, Advances}
 use Rattle.passes.specs.declared.Phase.{Phase}
 use Rattle.passes.specs.declared.Phase.the-variants.{Before, Within, Ended}
 use Rattle.passes.specs.Cards.{roleOf, operandsAt, counterAfter, nameValue, nameLength}
@@ -52,14 +52,14 @@ againNo Starts = 13
 againNo Equates = 0
 againNo SetsCounter = 0
 againNo Ends = 0
-againNo Makes = 0
+againNo Advances = 0
 
 abbrev pub missingNo : Role → ℕ
 missingNo Starts = 0
 missingNo Equates = 13
 missingNo SetsCounter = 13
 missingNo Ends = 13
-missingNo Makes = 13
+missingNo Advances = 13
 
 abbrev pub startNo : Phase → Role → ℕ
 startNo Before r = missingNo r
@@ -80,7 +80,7 @@ earlyBy Starts op x = 0
 earlyBy Equates op x = expressionsNo op x
 earlyBy SetsCounter op x = expressionsNo op x
 earlyBy Ends op x = 0
-earlyBy Makes op x = 0
+earlyBy Advances op x = 0
 
 unfoldable pub earlyNo : (ℕ → Entry) → ℕ → List ℕ → Line → ℕ
 earlyNo look counter s l = earlyBy (roleOf (l .operation)) (l .operation) (operandsAt look counter s l)
@@ -168,7 +168,7 @@ phaseAfter Starts p = Within
 phaseAfter Equates p = p
 phaseAfter SetsCounter p = p
 phaseAfter Ends p = Ended
-phaseAfter Makes p = p
+phaseAfter Advances p = p
 
 abbrev pub lineStep : State → List ℕ → Line → State
 lineStep st s l = record {

@@ -26,7 +26,7 @@ use Rattle.lines.specs.declared.Reading.{Reading}
 use Rattle.lines.specs.declared.Reading.the-variants.{Comment, BadName, Statement}
 use Rattle.lines.specs.Lines.{readingOf, operandIn}
 use Rattle.passes.specs.declared.Role.{Role}
-use Rattle.passes.specs.declared.Role.the-variants.{Starts, Equates, SetsCounter, Ends, Makes}
+use Rattle.passes.specs.declared.Role.the-variants.{Starts, Equates, SetsCounter, Ends, Advances}
 use Rattle.passes.specs.declared.Course.{Course}
 use Rattle.passes.specs.declared.Checked.{Checked}
 use Rattle.passes.specs.declared.Checked.the-variants.{Clean, Bad}
@@ -122,7 +122,7 @@ roleEntry Starts v rest = rest
 roleEntry Equates v rest = rest
 roleEntry SetsCounter v rest = rest
 roleEntry Ends v rest = entryBy v
-roleEntry Makes v rest = rest
+roleEntry Advances v rest = rest
 
 abbrev pub readingEntry : (ℕ → Entry) → Course → List ℕ → Reading → BookEntry → BookEntry
 readingEntry look c s Comment rest = rest

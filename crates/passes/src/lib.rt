@@ -17,13 +17,13 @@ ghost use Rattle.names.specs.Table.{namesIn};
 ghost use Rattle.forms.specs.Size.{sizeOf};
 ghost use Rattle.passes.specs.Cards.{roleOf, startValue, operandsAt, counterBy};
 
-// What a card does to the counter and the names, beside making bytes.
+// What a card does to the counter and the names: an ordinary one advances the counter by its bytes.
 pub enum Role {
     Starts,
     Equates,
     SetsCounter,
     Ends,
-    Makes,
+    Advances,
 }
 
 // Where pass one stands: before START, between START and END, behind END.
@@ -55,25 +55,25 @@ pub fn role_of(op: Operation) -> Role
     ensures { λ r. ⌜ r ≡ roleOf op ⌝ }
 {
     match op {
-        Operation::Unknown => Role::Makes,
+        Operation::Unknown => Role::Advances,
         Operation::Start => Role::Starts,
         Operation::Equ => Role::Equates,
         Operation::Org => Role::SetsCounter,
-        Operation::Dc => Role::Makes,
-        Operation::Ds => Role::Makes,
-        Operation::Using => Role::Makes,
-        Operation::Drop => Role::Makes,
+        Operation::Dc => Role::Advances,
+        Operation::Ds => Role::Advances,
+        Operation::Using => Role::Advances,
+        Operation::Drop => Role::Advances,
         Operation::End => Role::Ends,
-        Operation::Decimal(_) => Role::Makes,
-        Operation::Characters(_) => Role::Makes,
-        Operation::Move => Role::Makes,
-        Operation::MoveOf(_) => Role::Makes,
-        Operation::OneAddress(_) => Role::Makes,
-        Operation::Branch(_) => Role::Makes,
-        Operation::LoadAddress => Role::Makes,
-        Operation::BranchOn(_) => Role::Makes,
-        Operation::Jump => Role::Makes,
-        Operation::JumpOn(_) => Role::Makes,
+        Operation::Decimal(_) => Role::Advances,
+        Operation::Characters(_) => Role::Advances,
+        Operation::Move => Role::Advances,
+        Operation::MoveOf(_) => Role::Advances,
+        Operation::OneAddress(_) => Role::Advances,
+        Operation::Branch(_) => Role::Advances,
+        Operation::LoadAddress => Role::Advances,
+        Operation::BranchOn(_) => Role::Advances,
+        Operation::Jump => Role::Advances,
+        Operation::JumpOn(_) => Role::Advances,
     }
 }
 
@@ -126,6 +126,6 @@ pub fn counter_by(role: Role, x: Operands, counter: u32, l: Line) -> u32
         Role::Equates => counter,
         Role::SetsCounter => widened(amount_of(lone_value(x))),
         Role::Ends => counter,
-        Role::Makes => counter + size_of(operation, shape) as u32,
+        Role::Advances => counter + size_of(operation, shape) as u32,
     }
 }

@@ -14,7 +14,7 @@ use Rattle.lines.specs.declared.Reading.{Reading}
 use Rattle.lines.specs.declared.Reading.the-variants.{Comment, BadName, Statement}
 use Rattle.lines.specs.Lines.{readingOf}
 use Rattle.passes.specs.declared.Role.{Role}
-use Rattle.passes.specs.declared.Role.the-variants.{Starts, Equates, SetsCounter, Ends, Makes}
+use Rattle.passes.specs.declared.Role.the-variants.{Starts, Equates, SetsCounter, Ends, Advances}
 use Rattle.passes.specs.declared.Phase.{Phase}
 use Rattle.passes.specs.declared.Phase.the-variants.{Before, Within, Ended}
 use Rattle.passes.specs.declared.Course.{Course}
@@ -53,7 +53,7 @@ not-end look c st s rest n = go (readingOf s) refl
         by Equates e = refl
         by SetsCounter e = refl
         by Ends e = absurd (n (ap (λ x. readingStep st s x .phase) q ∙ ap (λ r. phaseAfter r (st .phase)) e))
-        by Makes e = refl
+        by Advances e = refl
 
 -- behind a card an END has been, where before it none had: the card is END
 becomes-ended : (st : State) (s : List ℕ) → (st .phase ≡ Ended → ⊥) → stepOne st s .phase ≡ Ended → (l : Line) × (readingOf s ≡ Statement l) × (roleOf (l .operation) ≡ Ends)
@@ -70,7 +70,7 @@ becomes-ended st s n h = go (readingOf s) refl h
         by Equates e h = absurd (n h)
         by SetsCounter e h = absurd (n h)
         by Ends e h = (l, q, e)
-        by Makes e h = absurd (n h)
+        by Advances e h = absurd (n h)
 
 end-at : (ss : List (List ℕ)) (k : ℕ) (st a : State) → passOne k st ss ≡ through a → (st .phase ≡ Ended → ⊥)
     → (n : ℕ) × (l : Line) × (length ss ≡ suc n) × (readingOf (getD ss n []) ≡ Statement l) × (roleOf (l .operation) ≡ Ends)

@@ -38,7 +38,7 @@ use Rattle.lines.specs.declared.Reading.the-variants.{Comment, BadName, Stateme
 use Rattle.lines.specs.Lines.{readingOf, operandIn, shapeNo}
 use Rattle.lines.proofs.Laws.{line-shape}
 use Rattle.passes.specs.declared.Role.{Role}
-use Rattle.passes.specs.declared.Role.the-variants.{Starts, Equates, SetsCounter, Ends, Makes}
+use Rattle.passes.specs.declared.Role.the-variants.{Starts, Equates, SetsCounter, Ends, Advances}
 use Rattle.passes.specs.declared.Course.{Course}
 use Rattle.passes.specs.Cards.{roleOf, operandsAt, counterBy, counterAfter}
 use Rattle.passes.specs.One.{State, fresh, earlyBy, earlyNo, readingNo, oneNo, readingStep, stepOne, passOne}
@@ -57,7 +57,7 @@ early Starts = false
 early Equates = true
 early SetsCounter = true
 early Ends = false
-early Makes = false
+early Advances = false
 
 early-is : (r : Role) → (r ≡ Equates) ⊎ (r ≡ SetsCounter) → early r ≡ true
 early-is r (inl e) = ap early e
@@ -143,7 +143,7 @@ module _ (st : State) (more : ℕ → Entry) (keeps : Keeps (find (st .names)) m
       go Equates h = refl
       go SetsCounter h = ap amountOf (same-lone (find (st .names)) more keeps (st .counter) (operandIn s l) (l .operation) (l .shape) h)
       go Ends h = refl
-      go Makes h = refl
+      go Advances h = refl
 
   line-again : readingOf s ≡ Statement l → early (roleOf (l .operation)) ≡ true → (bases : Bases)
       → readingTwoNo more (record { counter = st .counter; bases = bases }) s (Statement l) ≡ 0

@@ -154,14 +154,14 @@ again Role.Starts = one 13 (omega arith) (omega arith)
 again Role.Equates = none
 again Role.SetsCounter = none
 again Role.Ends = none
-again Role.Makes = none
+again Role.Advances = none
 
 start : (p : Phase) (r : Role) → Number (startNo p r)
 start Phase.Before Role.Starts = none
 start Phase.Before Role.Equates = one 13 (omega arith) (omega arith)
 start Phase.Before Role.SetsCounter = one 13 (omega arith) (omega arith)
 start Phase.Before Role.Ends = one 13 (omega arith) (omega arith)
-start Phase.Before Role.Makes = one 13 (omega arith) (omega arith)
+start Phase.Before Role.Advances = one 13 (omega arith) (omega arith)
 start Phase.Within r = again r
 start Phase.Ended r = again r
 
@@ -227,7 +227,7 @@ early Role.Starts op x = none
 early Role.Equates op x = expressions op x
 early Role.SetsCounter op x = expressions op x
 early Role.Ends op x = none
-early Role.Makes op x = none
+early Role.Advances op x = none
 
 high : (v : Value) → Number (over v)
 high v = pick-number (leb (amountOf v) 65535) 0 20 none (one 20 (omega arith) (omega arith))

@@ -36,7 +36,7 @@ use Rattle.lines.specs.declared.Reading.the-variants.{Statement}
 use Rattle.lines.specs.Lines.{readingOf, operandIn, shapeNo}
 use Rattle.lines.proofs.Laws.{line-shape}
 use Rattle.passes.specs.declared.Role.{Role}
-use Rattle.passes.specs.declared.Role.the-variants.{Starts, Equates, SetsCounter, Ends, Makes}
+use Rattle.passes.specs.declared.Role.the-variants.{Starts, Equates, SetsCounter, Ends, Advances}
 use Rattle.passes.specs.Cards.{roleOf, operandsAt, counterBy, counterAfter, placeNamed, nameValueBy, nameValue}
 use Rattle.passes.specs.One.{againNo, earlyBy, earlyNo, dataNo}
 use Rattle.passes.specs.Two.{constantPieces, shapePieces, linePieces}
@@ -51,14 +51,14 @@ early-none Starts op x h = refl
 early-none Equates op x h = h
 early-none SetsCounter op x h = h
 early-none Ends op x h = refl
-early-none Makes op x h = refl
+early-none Advances op x h = refl
 
 abbrev sets : Role → Bool
 sets Starts = false
 sets Equates = false
 sets SetsCounter = true
 sets Ends = false
-sets Makes = false
+sets Advances = false
 
 only-org : (op : Operation) → sets (roleOf op) ≡ true → op ≡ Org
 only-org Unknown e = absurd (false≢true e)
@@ -118,7 +118,7 @@ module _ (d : ℕ) (s : List ℕ) (l : Line) (reads : readingOf s ≡ Statement 
           go Equates e n h k = refl
           go SetsCounter e n h k = rw (at-raised h k) (org-raised (only-org (l .operation) (ap sets e)) (find ns) here h)
           go Ends e n h k = refl
-          go Makes e n h k = omega arith
+          go Advances e n h k = omega arith
 
       -- THE NAME
 
@@ -146,7 +146,7 @@ module _ (d : ℕ) (s : List ℕ) (l : Line) (reads : readingOf s ≡ Statement 
           go Equates n h k = rw (at-raised h k) (lone-raised d x₀)
           go SetsCounter n h k = refl
           go Ends n h k = refl
-          go Makes n h k = ap (λ (n : ℕ). Relocatable (record { 0 = n })) (place (l .shape) sizes)
+          go Advances n h k = ap (λ (n : ℕ). Relocatable (record { 0 = n })) (place (l .shape) sizes)
 
     -- THE BASES
 

@@ -51,7 +51,7 @@ begun-on Role.Starts p b = tt
 begun-on Role.Equates p b = b
 begun-on Role.SetsCounter p b = b
 begun-on Role.Ends p b = tt
-begun-on Role.Makes p b = b
+begun-on Role.Advances p b = b
 
 begun-step : (st : State) (s : List ℕ) → Begun (st .phase) → Begun (stepOne st s .phase)
 unfolding stepOne

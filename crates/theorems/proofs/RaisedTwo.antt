@@ -93,7 +93,7 @@ module _ (d : ℕ) (ns : List Name) where
         role Role.Equates v = refl
         role Role.SetsCounter v = refl
         role Role.Ends v = by v
-        role Role.Makes v = refl
+        role Role.Advances v = refl
 
         go : (x : Reading) → readingTwoNo (find ns) c s x ≡ 0 → readingTwoNo (find up) (raisedCourse d c) s x ≡ 0
             → readingEntry (find up) (raisedCourse d c) s x (movedEntry d rest) ≡ movedEntry d (readingEntry (find ns) c s x rest)

@@ -39,7 +39,7 @@ use Rattle.lines.specs.declared.Reading.{Reading}
 use Rattle.lines.specs.declared.Reading.the-variants.{Comment, BadName, Statement}
 use Rattle.lines.specs.Lines.{readingOf, operandIn}
 use Rattle.passes.specs.declared.Role.{Role}
-use Rattle.passes.specs.declared.Role.the-variants.{Starts, Equates, SetsCounter, Ends, Makes}
+use Rattle.passes.specs.declared.Role.the-variants.{Starts, Equates, SetsCounter, Ends, Advances}
 use Rattle.passes.specs.declared.Course.{Course}
 use Rattle.passes.specs.Cards.{roleOf, operandsAt}
 use Rattle.passes.specs.One.{State, fresh, dataNo, readingNo, oneNo, stepOne, passOne}
@@ -147,7 +147,7 @@ entry-fits look (s ∷ ss) c = go (readingOf s) (entryFrom look (stepTwo look c 
     by Equates v rest l h = h
     by SetsCounter v rest l h = h
     by Ends v rest l h = entry-low v l
-    by Makes v rest l h = h
+    by Advances v rest l h = h
 
     go : (x : Reading) (rest : BookEntry) → entryFits rest ≡ true → entryFits (readingEntry look c s x rest) ≡ true
     go Comment rest h = h

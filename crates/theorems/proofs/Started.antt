@@ -91,7 +91,7 @@ begins s l e h = rw e (go (roleOf (l .operation)) (fine fresh s l h .started))
     go Role.Equates h = absurd (omega arith)
     go Role.SetsCounter h = absurd (omega arith)
     go Role.Ends h = tt
-    go Role.Makes h = absurd (omega arith)
+    go Role.Advances h = absurd (omega arith)
 
 -- THE START CARD
 

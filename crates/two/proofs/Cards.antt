@@ -46,7 +46,7 @@ use Rattle.lines.specs.declared.Reading.the-variants.{Comment, BadName, Stateme
 use Rattle.lines.specs.Lines.{readingOf, operandIn}
 use Rattle.lines.proofs.Laws.{line-within, line-shape}
 use Rattle.passes.specs.declared.Role.{Role}
-use Rattle.passes.specs.declared.Role.the-variants.{Starts, Equates, SetsCounter, Ends, Makes}
+use Rattle.passes.specs.declared.Role.the-variants.{Starts, Equates, SetsCounter, Ends, Advances}
 use Rattle.passes.specs.declared.Course.{Course}
 use Rattle.passes.specs.Cards.{roleOf, operandsAt, counterAfter}
 use Rattle.passes.specs.One.{dataNo}
@@ -104,7 +104,7 @@ module _ (look : ℕ → Entry) (c : Course) (s : List ℕ) where
       by Equates v rest = refl
       by SetsCounter v rest = refl
       by Ends v rest = refl
-      by Makes v rest = refl
+      by Advances v rest = refl
 
       go : (x : Reading) (rest : BookEntry) → readingEntry look c s x rest ≡ entryOr (readingMade look c s x .entry) rest
       go Comment rest = refl

@@ -27,7 +27,7 @@ use Rattle.lines.specs.declared.Reading.{Reading}
 use Rattle.lines.specs.declared.Reading.the-variants.{Comment, BadName, Statement}
 use Rattle.lines.specs.Lines.{readingOf}
 use Rattle.passes.specs.declared.Role.{Role}
-use Rattle.passes.specs.declared.Role.the-variants.{Starts, Equates, SetsCounter, Ends, Makes}
+use Rattle.passes.specs.declared.Role.the-variants.{Starts, Equates, SetsCounter, Ends, Advances}
 use Rattle.passes.specs.declared.Course.{Course}
 use Rattle.passes.specs.declared.Checked.{Checked}
 use Rattle.passes.specs.declared.Checked.the-variants.{Clean, Bad}
@@ -85,7 +85,7 @@ soughtBy Starts v = Open
 soughtBy Equates v = Open
 soughtBy SetsCounter v = Open
 soughtBy Ends v = Found (entryBy v)
-soughtBy Makes v = Open
+soughtBy Advances v = Open
 
 abbrev pub firstOf : Sought → Sought → Sought
 firstOf Open b = b

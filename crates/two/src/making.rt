@@ -117,7 +117,7 @@ fn sought_by(role: Role, v: Value) -> Sought
         Role::Equates => Sought::Open,
         Role::SetsCounter => Sought::Open,
         Role::Ends => Sought::Found(entry_by(v)),
-        Role::Makes => Sought::Open,
+        Role::Advances => Sought::Open,
     }
 }
 

@@ -1,3 +1,4 @@
+-- `finish` meets its contract: what was judged tells what was checked.
 use native.Mathlib.Omega.{arith}
 use mathlib.Core.Path.{ap}
 use lib.ListN.{length}

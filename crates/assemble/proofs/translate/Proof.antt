@@ -1,3 +1,4 @@
+-- `translate` meets its contract: what pass one comes to, and what pass two makes of its names.
 use mathlib.Core.Path.{sym, ap, _∙_}
 use native.Mathlib.Omega.{arith}
 use Rattle.names.proofs.Table.{names-length}
@@ -6,24 +7,16 @@ use Rattle.assemble.proofs.Ways.{refused-one, passed-one, passed-fits}
 use borrow.Author.Needs.{needs}
 use Rattle.assemble.proofs.translate.Statement.{statement}
 use Rattle.assemble.proofs.translate.Tie as tie
-use Rattle.assemble.proofs.translate.Reads as reads
-use Rattle.assemble.proofs.translate.Lts as lts
-use Rattle.assemble.proofs.finish.Reads as finish-reads
-use Rattle.one.proofs.run_one.Reads as run-one-reads
 
--- src/lib.rt:58:11
 run-one-requires : tie.Need-run-one-requires
 run-one-requires c κs = search needs
 
--- src/lib.rt:59:22
 enum-known-number : tie.Need-enum-known-number
 enum-known-number c = search needs
 
--- src/lib.rt:60:22
 enum-known-p : tie.Need-enum-known-p
 enum-known-p c = search needs
 
--- src/lib.rt:60:28
 finish-requires : tie.Need-finish-requires
 finish-requires c κs =
     let start = c .before .before .before .before .before .before .before .before .before .before .before .before .pre in
@@ -33,26 +26,21 @@ finish-requires c κs =
     let kept = c .before .before .before .before .before .before .before .run-one .kept in
     ((start .0, p .0), (omega arith, p .1, omega arith))
 
--- src/lib.rt:52:1
 same-length : tie.Need-same-length
 same-length c = search needs
 
--- src/lib.rt:52:1
 returns : tie.Need-returns
 returns c =
     let a = c .before .before .before .before .before .before .before .before .before .before .args in
     let p = refused-one _ _ _ (a .work .now) (a .out .now) (sym (ap (λ x. passedAs x (c .before .before .before .before .before .run-one .last .1 .1 .0)) (c .before .number .given .1)) ∙ c .before .before .before .before .before .run-one .ensures .0) in
     (p .0, (c .before .before .before .before .before .run-one .ensures .1, p .1))
 
--- src/lib.rt:52:1
 same-length-2 : tie.Need-same-length-2
 same-length-2 c = search needs
 
--- src/lib.rt:52:1
 same-length-3 : tie.Need-same-length-3
 same-length-3 c = search needs
 
--- src/lib.rt:52:1
 returns-2 : tie.Need-returns-2
 returns-2 c =
     let a = c .before .before .before .before .before .before .before .before .before .before .before .before .before .before .before .args in

@@ -1,3 +1,4 @@
+-- `write` meets its contract: the size it is given is the length of the book.
 use Rattle.names.specs.Names.{find}
 use Rattle.names.specs.Table.{namesIn}
 use Rattle.cards.specs.Source.{cardsOf}

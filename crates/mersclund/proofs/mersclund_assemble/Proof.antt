@@ -1,30 +1,22 @@
+-- `mersclund_assemble` meets its contract. The assembly's own promise, packed.
 use mathlib.Core.Path.{ap, _∙_}
 use Rattle.mersclund.specs.Packed.{packedAssembled}
 use borrow.Author.Needs.{needs}
 use Rattle.mersclund.proofs.mersclund_assemble.Statement.{statement}
 use Rattle.mersclund.proofs.mersclund_assemble.Tie as tie
-use Rattle.mersclund.proofs.mersclund_assemble.Reads as reads
-use Rattle.mersclund.proofs.mersclund_assemble.Lts as lts
-use Rattle.assemble.proofs.assemble_cards.Reads as assemble-cards-reads
-use Rattle.mersclund.proofs.pack_assembled.Reads as pack-assembled-reads
 
--- src/lib.rt:71:20
 assemble-cards-requires : tie.Need-assemble-cards-requires
 assemble-cards-requires c κs = search needs
 
--- src/lib.rt:71:5
 pack-assembled-requires : tie.Need-pack-assembled-requires
 pack-assembled-requires c κs = search needs
 
--- src/lib.rt:60:1
 same-length : tie.Need-same-length
 same-length c = search needs
 
--- src/lib.rt:60:1
 same-length-2 : tie.Need-same-length-2
 same-length-2 c = search needs
 
--- src/lib.rt:60:1
 returns : tie.Need-returns
 returns c =
     let called = c .before .before .before .before .before .assemble-cards .ensures in

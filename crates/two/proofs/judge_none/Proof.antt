@@ -1,5 +1,4 @@
 -- `judge_none` meets its contract: no statement, no bytes.
-use mathlib.Core.Path.{sym}
 use Rattle.encode.proofs.Steps.{none-text, none-fields}
 use Rattle.two.proofs.judge_none.Statement.{statement}
 use Rattle.two.proofs.judge_none.Tie as tie
