@@ -9,7 +9,7 @@ use borrow.Author.Tests.{ltb-false}
 use Rattle.values.specs.Tests.{pick, either}
 use Rattle.values.specs.declared.Value.{Value}
 use Rattle.values.specs.declared.Value.the-variants.{Absolute, Relocatable}
-use Rattle.names.specs.declared.Entry.{Entry}
+use Rattle.names.specs.declared.Meaning.{Meaning}
 use Rattle.names.specs.Table.{amountOf}
 use Rattle.expressions.specs.declared.form.Form.the-variants.{Ends}
 use Rattle.expressions.specs.declared.Kind.{Kind}
@@ -21,7 +21,7 @@ use Rattle.expressions.specs.Form.Read.{upTo, fails}
 use Rattle.expressions.specs.Value.{addendFactors, Sum, sumOf, absoluteOf, relocatableOf, valueOf, evaluated, suits, kindOf, refusalFor, valueIn}
 
 -- an expression that ends is never refused for its form
-pub formed : (look : ℕ → Entry) (here : ℕ) (e : Read (List (Addend Placed))) (q : ℕ) → formOf e ≡ Ends q → (w : Wanted) → refusalFor w (evaluated look here e) ≡ 15 → ⊥
+pub formed : (look : ℕ → Meaning) (here : ℕ) (e : Read (List (Addend Placed))) (q : ℕ) → formOf e ≡ Ends q → (w : Wanted) → refusalFor w (evaluated look here e) ≡ 15 → ⊥
 unfolding evaluated valueOf
 formed look here (upTo xs q) r h w e = go (sumOf (map (addendFactors look here) xs)) e
   where
@@ -67,7 +67,7 @@ accepted w (OutOfRange k) h = absurd (go (suits w k) h)
     go false e = omega arith
 
 -- a value is at most 65535
-pub value-fits : (look : ℕ → Entry) (here : ℕ) (e : Read (List (Addend Placed))) → amountOf (valueIn (evaluated look here e)) < 65536
+pub value-fits : (look : ℕ → Meaning) (here : ℕ) (e : Read (List (Addend Placed))) → amountOf (valueIn (evaluated look here e)) < 65536
 unfolding evaluated valueOf
 value-fits look here (upTo xs q) = go (sumOf (map (addendFactors look here) xs))
   where

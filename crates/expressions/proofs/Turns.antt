@@ -7,7 +7,7 @@ use native.Mathlib.Nat.{mul-le-mul}
 use native.Mathlib.Omega.{arith}
 use lib.ListN.{length}
 use Rattle.values.specs.Tests.{pick}
-use Rattle.names.specs.declared.Entry.{Entry}
+use Rattle.names.specs.declared.Meaning.{Meaning}
 use Rattle.terms.specs.Terms.{stands, termAt}
 use Rattle.expressions.specs.declared.form.Form.the-variants.{Ends, Fails}
 use Rattle.expressions.specs.declared.sums.Held.{Held}
@@ -21,7 +21,7 @@ use Rattle.expressions.specs.Steps.{begun, multiplied, multipliedAll, he
 use Rattle.expressions.proofs.Reading.{factors-more, factors-fail, factors-stop, product-more, product-fail, product-within, products-are}
 use Rattle.expressions.proofs.Same.{ended-same}
 
-module _ (look : ℕ → Entry) (here : ℕ) (s : List ℕ) where
+module _ (look : ℕ → Meaning) (here : ℕ) (s : List ℕ) where
   -- a factor more
   pub held-more : (h : Held) (q r : ℕ) → stands "*" s q ≡ true → endOf (termAt s (q + 1)) ≡ Ends r
       → heldOn look here h (factorsAt s q) ≡ heldOn look here (multiplied h (factorOf look here (termAt s (q + 1)))) (factorsAt s r)
