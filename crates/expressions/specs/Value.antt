@@ -6,14 +6,18 @@ use lib.Dec.{ltb, eqb}
 use Rattle.values.specs.Tests.{pick, either}
 use Rattle.values.specs.declared.Value.{Value}
 use Rattle.values.specs.declared.Value.the-variants.{Absolute, Relocatable}
+use Rattle.values.specs.declared.MaybeValue.{MaybeValue}
+use Rattle.values.specs.declared.MaybeAbsolute.{MaybeAbsolute}
+use Rattle.values.specs.declared.MaybeRelocatable.{MaybeRelocatable}
+use Rattle.values.specs.declared.Wanted.{Wanted}
+use Rattle.values.specs.declared.Wanted.the-variants.{Any, OnlyAbsolute, OnlyRelocatable}
+use Rattle.values.specs.Values.{onlyAbsolute, onlyRelocatable}
 use Rattle.terms.specs.declared.Term.{Term}
 use Rattle.terms.specs.declared.Term.the-variants.{Number, Symbol, Here, Bad}
 use Rattle.names.specs.declared.Meaning.{Meaning}
 use Rattle.names.specs.declared.Meaning.the-variants.{Known, Unknown}
 use Rattle.expressions.specs.declared.factors.Factor.{Factor}
 use Rattle.expressions.specs.declared.Kind.{Kind}
-use Rattle.expressions.specs.declared.Wanted.{Wanted}
-use Rattle.expressions.specs.declared.Wanted.the-variants.{Any, OnlyAbsolute, OnlyRelocatable}
 use Rattle.expressions.specs.declared.Evaluated.{Evaluated}
 use Rattle.expressions.specs.declared.Evaluated.the-variants.{Good, Malformed, Undefined, WrongKind, OutOfRange}
 use Rattle.expressions.specs.Form.{Placed, Product, Addend, Read}
@@ -224,13 +228,21 @@ refusalFor w Undefined = 18
 refusalFor w WrongKind = 19
 refusalFor w (OutOfRange k) = pick (suits w k) 20 19
 
--- the value, and absolute 0 where there is none
-abbrev pub valueIn : Evaluated → Value
-valueIn (Good v) = v
-valueIn Malformed = Absolute (record { 0 = 0 })
-valueIn Undefined = Absolute (record { 0 = 0 })
-valueIn WrongKind = Absolute (record { 0 = 0 })
-valueIn (OutOfRange k) = Absolute (record { 0 = 0 })
+-- the value, where there is one
+abbrev pub valueIn : Evaluated → MaybeValue
+valueIn (Good v) = MaybeValue.Is v
+valueIn Malformed = MaybeValue.Nothing
+valueIn Undefined = MaybeValue.Nothing
+valueIn WrongKind = MaybeValue.Nothing
+valueIn (OutOfRange k) = MaybeValue.Nothing
+
+-- the value, where there is one and it is absolute
+abbrev pub absoluteIn : Evaluated → MaybeAbsolute
+absoluteIn e = onlyAbsolute (valueIn e)
+
+-- the value, where there is one and it is relocatable
+abbrev pub relocatableIn : Evaluated → MaybeRelocatable
+relocatableIn e = onlyRelocatable (valueIn e)
 
 -- "Implied length: that of the first term if a symbol, else 1"
 abbrev pub meaningLength : Meaning → ℕ
