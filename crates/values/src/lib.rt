@@ -19,6 +19,13 @@ pub enum Value {
     Relocatable(Relocatable),
 }
 
+// What a place asks of a value.
+pub enum Wanted {
+    Any,
+    OnlyAbsolute,
+    OnlyRelocatable,
+}
+
 // A relocatable value moved by a displacement, or that the sum is over 65535.
 pub enum Moved {
     To(Relocatable),
