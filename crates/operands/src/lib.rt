@@ -1,78 +1,63 @@
 // What the expressions of a card's operand come to.
+pub mod kinds;
+
+use addresses::Address;
+use addresses::Item;
 use data::Data;
+use data::DataCard;
 use data::DataType;
 use expressions::Evaluated;
 use expressions::evaluate;
 use expressions::factors::implied_length;
-use expressions::value_in;
-use forms::Address;
-use forms::Item;
 use forms::Shape;
-use names::amount_of;
 ghost use mathlib.Core.Path.{_≡_};
 ghost use mathlib.Core.Bool.{true};
 ghost use Prim.Native.Nat.{_*_, _≤_};
 ghost use lib.ListN.{length};
 ghost use Rattle.names.specs.Names.{find, ascending};
 ghost use Rattle.names.specs.Table.{namesIn};
-ghost use Rattle.statements.specs.Operands.{amountIn, amountOr, itemOf, placeOf, constantOf, operandsOf};
+ghost use Rattle.operands.specs.Operands.{itemOf, addressOf, constantOf, operandsOf};
 
 // An item in parentheses, where it is written.
-pub enum Valued {
+pub enum EvaluatedItem {
     Absent,
     Of(Evaluated),
 }
 
 // An address with its items, and the length that it implies.
-pub struct Place {
+pub struct EvaluatedAddress {
     pub address: Evaluated,
-    pub length: Valued,
-    pub register: Valued,
+    pub length: EvaluatedItem,
+    pub register: EvaluatedItem,
     pub implied: u16,
 }
 
 pub enum Operands {
-    Two(Place, Place),
+    TwoAddresses(EvaluatedAddress, EvaluatedAddress),
     // An address and a Q.
-    One(Place, Evaluated),
-    Only(Place),
+    AddressAndCode(EvaluatedAddress, Evaluated),
+    LoneAddress(EvaluatedAddress),
     // A jump's target and its Q; a base and its register.
     Pair(Evaluated, Evaluated),
     Lone(Evaluated),
     // Copies of an address constant, and their length.
-    Addresses(u32, u32, Evaluated),
+    AddressConstants(u32, u32, Evaluated),
     None,
 }
 
-pub fn amount_in(e: Evaluated) -> u16
-    ensures { λ r. ⌜ r ≡ amountIn e ⌝ }
-{
-    amount_of(value_in(e))
-}
-
-// The value of an item, or another where it is not written.
-pub fn amount_or(v: Valued, other: u16) -> u16
-    ensures { λ r. ⌜ r ≡ amountOr v other ⌝ }
-{
-    match v {
-        Valued::Absent => other,
-        Valued::Of(e) => amount_in(e),
-    }
-}
-
-fn item_of(i: Item, o: &[u8], table: &[u8], count: usize, here: u32) -> Valued
+fn item_of(i: Item, o: &[u8], table: &[u8], count: usize, here: u32) -> EvaluatedItem
     requires { ⌜ (16 * count ≤ length (now table)) × (ascending (namesIn count (now table)) ≡ true) ⌝ }
     ensures { λ r. ⌜ r ≡ itemOf (find (namesIn count (now (table .entry)))) here (now (o .entry)) i ⌝ }
 {
     match i {
-        Item::Absent => Valued::Absent,
-        Item::At(p) => Valued::Of(evaluate(o, p, table, count, here)),
+        Item::Absent => EvaluatedItem::Absent,
+        Item::At(p) => EvaluatedItem::Of(evaluate(o, p, table, count, here)),
     }
 }
 
-fn place_of(a: Address, o: &[u8], table: &[u8], count: usize, here: u32) -> Place
+fn address_of(a: Address, o: &[u8], table: &[u8], count: usize, here: u32) -> EvaluatedAddress
     requires { ⌜ (16 * count ≤ length (now table)) × (ascending (namesIn count (now table)) ≡ true) ⌝ }
-    ensures { λ r. ⌜ r ≡ placeOf (find (namesIn count (now (table .entry)))) here (now (o .entry)) a ⌝ }
+    ensures { λ r. ⌜ r ≡ addressOf (find (namesIn count (now (table .entry)))) here (now (o .entry)) a ⌝ }
 {
     let at = a.at;
     let length = a.length;
@@ -81,7 +66,7 @@ fn place_of(a: Address, o: &[u8], table: &[u8], count: usize, here: u32) -> Plac
     let long = item_of(length, o, table, count, here);
     let by = item_of(register, o, table, count, here);
     let implied = implied_length(o, at, table, count);
-    Place {
+    EvaluatedAddress {
         address: address,
         length: long,
         register: by,
@@ -89,22 +74,24 @@ fn place_of(a: Address, o: &[u8], table: &[u8], count: usize, here: u32) -> Plac
     }
 }
 
-// The expression of address constants; the other types have none.
+// The expression of a DC's address constants; other data cards have none.
 fn constant_of(d: Data, o: &[u8], table: &[u8], count: usize, here: u32) -> Operands
     requires { ⌜ (16 * count ≤ length (now table)) × (ascending (namesIn count (now table)) ≡ true) ⌝ }
     ensures { λ r. ⌜ r ≡ constantOf (find (namesIn count (now (table .entry)))) here (now (o .entry)) d ⌝ }
 {
+    let card = d.card;
     let kind = d.kind;
     let value = d.value;
-    match kind {
-        DataType::Characters => Operands::None,
-        DataType::Hexadecimal => Operands::None,
-        DataType::Decimal => Operands::None,
-        DataType::Address => Operands::Addresses(
-            d.copies,
-            d.length,
-            evaluate(o, value, table, count, here),
-        ),
+    match card {
+        DataCard::Reserve => Operands::None,
+        DataCard::Constant => match kind {
+            DataType::Address => Operands::AddressConstants(
+                d.copies,
+                d.length,
+                evaluate(o, value, table, count, here),
+            ),
+            _ => Operands::None,
+        },
     }
 }
 
@@ -114,25 +101,21 @@ pub fn operands_of(shape: Shape, o: &[u8], table: &[u8], count: usize, here: u32
     ensures { λ r. ⌜ r ≡ operandsOf (find (namesIn count (now (table .entry)))) here (now (o .entry)) shape ⌝ }
 {
     match shape {
-        Shape::Fails(_) => Operands::None,
-        Shape::Nothing => Operands::None,
-        Shape::StartAt(_) => Operands::None,
-        Shape::Expression => Operands::Lone(evaluate(o, 0, table, count, here)),
+        Shape::Expression | Shape::Target => Operands::Lone(evaluate(o, 0, table, count, here)),
         Shape::Pair(p) => Operands::Pair(
             evaluate(o, 0, table, count, here),
             evaluate(o, p, table, count, here),
         ),
-        Shape::Target => Operands::Lone(evaluate(o, 0, table, count, here)),
-        Shape::Two(a, b) => Operands::Two(
-            place_of(a, o, table, count, here),
-            place_of(b, o, table, count, here),
+        Shape::TwoAddresses(a, b) => Operands::TwoAddresses(
+            address_of(a, o, table, count, here),
+            address_of(b, o, table, count, here),
         ),
-        Shape::One(a, q) => Operands::One(
-            place_of(a, o, table, count, here),
+        Shape::AddressAndCode(a, q) => Operands::AddressAndCode(
+            address_of(a, o, table, count, here),
             evaluate(o, q, table, count, here),
         ),
-        Shape::Only(a) => Operands::Only(place_of(a, o, table, count, here)),
-        Shape::Constant(d) => constant_of(d, o, table, count, here),
-        Shape::Reserve(_) => Operands::None,
+        Shape::LoneAddress(a) => Operands::LoneAddress(address_of(a, o, table, count, here)),
+        Shape::Data(d) => constant_of(d, o, table, count, here),
+        _ => Operands::None,
     }
 }
