@@ -1,9 +1,9 @@
 -- `away_from` meets its contract, by the tests that led to each answer.
 use borrow.Author.Tests.{le-leb, lt-leb}
-use Rattle.statements.specs.Places.{awayFrom}
+use Rattle.places.specs.Places.{awayFrom}
 use borrow.Author.Needs.{needs}
-use Rattle.statements.proofs.places.away_from.Statement.{statement}
-use Rattle.statements.proofs.places.away_from.Tie as tie
+use Rattle.places.proofs.away_from.Statement.{statement}
+use Rattle.places.proofs.away_from.Tie as tie
 
 returns : tie.Need-returns
 unfolding awayFrom

@@ -1,7 +1,7 @@
 -- `away_from_base` meets its contract, case by case.
 use borrow.Author.Needs.{needs}
-use Rattle.statements.proofs.places.away_from_base.Statement.{statement}
-use Rattle.statements.proofs.places.away_from_base.Tie as tie
+use Rattle.places.proofs.away_from_base.Statement.{statement}
+use Rattle.places.proofs.away_from_base.Tie as tie
 
 enum-told : tie.Need-enum-told
 enum-told c = search needs

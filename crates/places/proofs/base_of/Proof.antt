@@ -1,7 +1,7 @@
 -- `base_of` meets its contract, by its test.
 use borrow.Author.Tests.{eq-eqb, ne-eqb}
-use Rattle.statements.proofs.places.base_of.Statement.{statement}
-use Rattle.statements.proofs.places.base_of.Tie as tie
+use Rattle.places.proofs.base_of.Statement.{statement}
+use Rattle.places.proofs.base_of.Tie as tie
 
 returns : tie.Need-returns
 returns c = rw (eq-eqb _ _ (c .if1 .taken))

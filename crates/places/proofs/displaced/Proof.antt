@@ -1,8 +1,8 @@
 -- `displaced` meets its contract, case by case.
-use Rattle.statements.specs.Places.{displacedBy}
+use Rattle.places.specs.Places.{displacedBy}
 use borrow.Author.Needs.{needs}
-use Rattle.statements.proofs.places.displaced.Statement.{statement}
-use Rattle.statements.proofs.places.displaced.Tie as tie
+use Rattle.places.proofs.displaced.Statement.{statement}
+use Rattle.places.proofs.displaced.Tie as tie
 
 enum-known-v : tie.Need-enum-known-v
 enum-known-v c = search needs

@@ -1,9 +1,9 @@
 -- `indexed` meets its contract, by the tests that led to each answer.
 use borrow.Author.Tests.{le-leb, lt-leb}
-use Rattle.statements.specs.Places.{indexedBy}
+use Rattle.places.specs.Places.{indexedBy}
 use borrow.Author.Needs.{needs}
-use Rattle.statements.proofs.places.indexed.Statement.{statement}
-use Rattle.statements.proofs.places.indexed.Tie as tie
+use Rattle.places.proofs.indexed.Statement.{statement}
+use Rattle.places.proofs.indexed.Tie as tie
 
 returns : tie.Need-returns
 unfolding indexedBy

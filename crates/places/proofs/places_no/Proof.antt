@@ -1,8 +1,17 @@
 -- `places_no` meets its contract, case by case.
-use Rattle.statements.specs.Places.{placesNo}
+use mathlib.Core.List.{[], _∷_}
+use mathlib.Core.Path.{_≡_, refl}
+use types.Run.{OneOf, miss}
+use denote.Enum.Declared.{tagOf}
+use Rattle.operands.specs.declared.Operands.{Operands}
+use Rattle.operands.proofs.Operands.{the-type}
+use Prim.Native.Nat.{ℕ}
+use Rattle.operations.specs.declared.traits.Use.{Use}
+use Rattle.places.specs.declared.Bases.{Bases}
+use Rattle.places.specs.Places.{placesNo}
 use borrow.Author.Needs.{needs}
-use Rattle.statements.proofs.places.places_no.Statement.{statement}
-use Rattle.statements.proofs.places.places_no.Tie as tie
+use Rattle.places.proofs.places_no.Statement.{statement}
+use Rattle.places.proofs.places_no.Tie as tie
 
 enum-known-x : tie.Need-enum-known-x
 enum-known-x c = search needs
@@ -52,12 +61,6 @@ enum-known-x-5 c = search needs
 use-no-requires-2 : tie.Need-use-no-requires-2
 use-no-requires-2 c κs = search needs
 
-enum-told : tie.Need-enum-told
-enum-told c = search needs
-
-enum-told-2 : tie.Need-enum-told-2
-enum-told-2 c = search needs
-
 returns : tie.Need-returns
 unfolding placesNo
 returns c = rw (c .lower-of .ensures, c .before .placed-no2 .ensures, c .before .before .operand-of2 .ensures, c .before .before .before .placed-no .ensures, c .before .before .before .before .operand-of .ensures, c .before .before .before .before .before .before .x .given .1)
@@ -78,13 +81,18 @@ returns-5 : tie.Need-returns-5
 unfolding placesNo
 returns-5 c = rw (c .use-no2 .ensures, c .before .before .x5 .given .1)
 
-returns-6 : tie.Need-returns-6
+others : (u : Use) (x : Operands) (next : ℕ) (bases : Bases) → OneOf (5 ∷ 6 ∷ []) (tagOf the-type x) → 0 ≡ placesNo u x next bases
 unfolding placesNo
-returns-6 c = rw (c .enum-told .given .1)
+others u (Operands.TwoAddresses a b) next bases k = absurd (miss (5 ∷ 6 ∷ []) 0 tt k)
+others u (Operands.AddressAndCode a q) next bases k = absurd (miss (5 ∷ 6 ∷ []) 1 tt k)
+others u (Operands.LoneAddress a) next bases k = absurd (miss (5 ∷ 6 ∷ []) 2 tt k)
+others u (Operands.Pair e q) next bases k = absurd (miss (5 ∷ 6 ∷ []) 3 tt k)
+others u (Operands.Lone e) next bases k = absurd (miss (5 ∷ 6 ∷ []) 4 tt k)
+others u (Operands.AddressConstants n m e) next bases k = refl
+others u Operands.None next bases k = refl
 
-returns-7 : tie.Need-returns-7
-unfolding placesNo
-returns-7 c = rw (c .enum-told2 .given .1)
+returns-6 : tie.Need-returns-6
+returns-6 c = others (c .before .args .u) (c .before .args .x) (c .before .args .next) (c .before .args .bases) (c .match .keys6)
 
 pub places-no-spec : {M : Type 1} → statement M
 places-no-spec =
@@ -106,12 +114,9 @@ places-no-spec =
     use-no-requires
     enum-known-x-5
     use-no-requires-2
-    enum-told
-    enum-told-2
     returns
     returns-2
     returns-3
     returns-4
     returns-5
-    returns-6
-    returns-7)
+    returns-6)

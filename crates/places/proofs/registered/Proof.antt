@@ -1,85 +1,66 @@
 -- `registered` meets its contract, case by case.
+use mathlib.Core.List.{[], _∷_}
+use mathlib.Core.Path.{_≡_, refl}
+use types.Run.{OneOf, miss}
+use denote.Enum.Declared.{tagOf}
+use Rattle.operands.specs.declared.Operands.{Operands}
+use Rattle.operands.proofs.Operands.{the-type}
+use Rattle.places.specs.declared.Bases.{Bases}
+use Rattle.places.specs.Places.{registeredBy}
 use borrow.Author.Needs.{needs}
-use Rattle.statements.proofs.places.registered.Statement.{statement}
-use Rattle.statements.proofs.places.registered.Tie as tie
-
-enum-told : tie.Need-enum-told
-enum-told c = search needs
-
-enum-told-2 : tie.Need-enum-told-2
-enum-told-2 c = search needs
-
-enum-told-3 : tie.Need-enum-told-3
-enum-told-3 c = search needs
+use Rattle.places.proofs.registered.Statement.{statement}
+use Rattle.places.proofs.registered.Tie as tie
 
 enum-known-x : tie.Need-enum-known-x
 enum-known-x c = search needs
 
-amount-in-requires : tie.Need-amount-in-requires
-amount-in-requires c κs = search needs
+absolute-in-requires : tie.Need-absolute-in-requires
+absolute-in-requires c κs = search needs
 
 value-in-requires : tie.Need-value-in-requires
 value-in-requires c κs = search needs
 
-with-base-requires : tie.Need-with-base-requires
-with-base-requires c κs = search needs
+using-base-requires : tie.Need-using-base-requires
+using-base-requires c κs = search needs
 
 enum-known-x-2 : tie.Need-enum-known-x-2
 enum-known-x-2 c = search needs
 
-amount-in-requires-2 : tie.Need-amount-in-requires-2
-amount-in-requires-2 c κs = search needs
+absolute-in-requires-2 : tie.Need-absolute-in-requires-2
+absolute-in-requires-2 c κs = search needs
 
-with-base-requires-2 : tie.Need-with-base-requires-2
-with-base-requires-2 c κs = search needs
-
-enum-told-4 : tie.Need-enum-told-4
-enum-told-4 c = search needs
-
-enum-told-5 : tie.Need-enum-told-5
-enum-told-5 c = search needs
+drop-base-requires : tie.Need-drop-base-requires
+drop-base-requires c κs = search needs
 
 returns : tie.Need-returns
-returns c = rw (c .enum-told .given .1)
+returns c = rw (c .using-base .ensures, c .before .value-in .ensures, c .before .before .absolute-in .ensures, c .before .before .before .before .x .given .1)
 
 returns-2 : tie.Need-returns-2
-returns-2 c = rw (c .enum-told2 .given .1)
+returns-2 c = rw (c .drop-base .ensures, c .before .absolute-in2 .ensures, c .before .before .before .x2 .given .1)
+
+others : (x : Operands) (bases : Bases) → OneOf (0 ∷ 1 ∷ 2 ∷ 5 ∷ 6 ∷ []) (tagOf the-type x) → bases ≡ registeredBy x bases
+others (Operands.TwoAddresses a b) bases k = refl
+others (Operands.AddressAndCode a q) bases k = refl
+others (Operands.LoneAddress a) bases k = refl
+others (Operands.Pair e q) bases k = absurd (miss (0 ∷ 1 ∷ 2 ∷ 5 ∷ 6 ∷ []) 3 tt k)
+others (Operands.Lone e) bases k = absurd (miss (0 ∷ 1 ∷ 2 ∷ 5 ∷ 6 ∷ []) 4 tt k)
+others (Operands.AddressConstants n m e) bases k = refl
+others Operands.None bases k = refl
 
 returns-3 : tie.Need-returns-3
-returns-3 c = rw (c .enum-told3 .given .1)
-
-returns-4 : tie.Need-returns-4
-returns-4 c = rw (c .with-base .ensures, c .before .value-in .ensures, c .before .before .amount-in .ensures, c .before .before .before .before .x .given .1)
-
-returns-5 : tie.Need-returns-5
-returns-5 c = rw (c .with-base2 .ensures, c .before .amount-in2 .ensures, c .before .before .before .x2 .given .1)
-
-returns-6 : tie.Need-returns-6
-returns-6 c = rw (c .enum-told4 .given .1)
-
-returns-7 : tie.Need-returns-7
-returns-7 c = rw (c .enum-told5 .given .1)
+returns-3 c = others (c .before .args .x) (c .before .args .bases) (c .match .keys3)
 
 pub registered-spec : {M : Type 1} → statement M
 registered-spec =
     tie.close
     (tie.spec
-    enum-told
-    enum-told-2
-    enum-told-3
     enum-known-x
-    amount-in-requires
+    absolute-in-requires
     value-in-requires
-    with-base-requires
+    using-base-requires
     enum-known-x-2
-    amount-in-requires-2
-    with-base-requires-2
-    enum-told-4
-    enum-told-5
+    absolute-in-requires-2
+    drop-base-requires
     returns
     returns-2
-    returns-3
-    returns-4
-    returns-5
-    returns-6
-    returns-7)
+    returns-3)

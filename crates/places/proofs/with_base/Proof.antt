@@ -1,7 +1,7 @@
 -- `with_base` meets its contract, by the tests that led to each answer.
 use borrow.Author.Tests.{eq-eqb, ne-eqb}
-use Rattle.statements.proofs.places.with_base.Statement.{statement}
-use Rattle.statements.proofs.places.with_base.Tie as tie
+use Rattle.places.proofs.with_base.Statement.{statement}
+use Rattle.places.proofs.with_base.Tie as tie
 
 returns : tie.Need-returns
 returns c = rw (eq-eqb _ _ (c .if1 .taken))

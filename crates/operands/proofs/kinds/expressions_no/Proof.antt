@@ -1,17 +1,17 @@
 -- `expressions_no` meets its contract, case by case.
-use Rattle.statements.specs.Kinds.{expressionsNo}
+use Rattle.operands.specs.Kinds.{expressionsNo}
 use borrow.Author.Needs.{needs}
-use Rattle.statements.proofs.kinds.expressions_no.Statement.{statement}
-use Rattle.statements.proofs.kinds.expressions_no.Tie as tie
+use Rattle.operands.proofs.kinds.expressions_no.Statement.{statement}
+use Rattle.operands.proofs.kinds.expressions_no.Tie as tie
 
 enum-known-x : tie.Need-enum-known-x
 enum-known-x c = search needs
 
-place-no-requires : tie.Need-place-no-requires
-place-no-requires c κs = search needs
+address-no-requires : tie.Need-address-no-requires
+address-no-requires c κs = search needs
 
-place-no-requires-2 : tie.Need-place-no-requires-2
-place-no-requires-2 c κs = search needs
+address-no-requires-2 : tie.Need-address-no-requires-2
+address-no-requires-2 c κs = search needs
 
 lower-of-requires : tie.Need-lower-of-requires
 lower-of-requires c κs = search needs
@@ -19,8 +19,8 @@ lower-of-requires c κs = search needs
 enum-known-x-2 : tie.Need-enum-known-x-2
 enum-known-x-2 c = search needs
 
-place-no-requires-3 : tie.Need-place-no-requires-3
-place-no-requires-3 c κs = search needs
+address-no-requires-3 : tie.Need-address-no-requires-3
+address-no-requires-3 c κs = search needs
 
 refusal-for-requires : tie.Need-refusal-for-requires
 refusal-for-requires c κs = search needs
@@ -31,8 +31,8 @@ lower-of-requires-2 c κs = search needs
 enum-known-x-3 : tie.Need-enum-known-x-3
 enum-known-x-3 c = search needs
 
-place-no-requires-4 : tie.Need-place-no-requires-4
-place-no-requires-4 c κs = search needs
+address-no-requires-4 : tie.Need-address-no-requires-4
+address-no-requires-4 c κs = search needs
 
 enum-known-x-4 : tie.Need-enum-known-x-4
 enum-known-x-4 c = search needs
@@ -61,8 +61,8 @@ refusal-for-requires-4 c κs = search needs
 enum-known-x-6 : tie.Need-enum-known-x-6
 enum-known-x-6 c = search needs
 
-address-wanted-requires : tie.Need-address-wanted-requires
-address-wanted-requires c κs = search needs
+constant-wanted-requires : tie.Need-constant-wanted-requires
+constant-wanted-requires c κs = search needs
 
 refusal-for-requires-5 : tie.Need-refusal-for-requires-5
 refusal-for-requires-5 c κs = search needs
@@ -72,15 +72,15 @@ enum-told c = search needs
 
 returns : tie.Need-returns
 unfolding expressionsNo
-returns c = rw (c .lower-of .ensures, c .before .place-no2 .ensures, c .before .before .place-no .ensures, c .before .before .before .before .x .given .1)
+returns c = rw (c .lower-of .ensures, c .before .address-no2 .ensures, c .before .before .address-no .ensures, c .before .before .before .before .x .given .1)
 
 returns-2 : tie.Need-returns-2
 unfolding expressionsNo
-returns-2 c = rw (c .lower-of2 .ensures, c .before .refusal-for .ensures, c .before .before .place-no3 .ensures, c .before .before .before .before .x2 .given .1)
+returns-2 c = rw (c .lower-of2 .ensures, c .before .refusal-for .ensures, c .before .before .address-no3 .ensures, c .before .before .before .before .x2 .given .1)
 
 returns-3 : tie.Need-returns-3
 unfolding expressionsNo
-returns-3 c = rw (c .place-no4 .ensures, c .before .before .x3 .given .1)
+returns-3 c = rw (c .address-no4 .ensures, c .before .before .x3 .given .1)
 
 returns-4 : tie.Need-returns-4
 unfolding expressionsNo
@@ -92,7 +92,7 @@ returns-5 c = rw (c .refusal-for4 .ensures, c .before .first-wanted2 .ensures, c
 
 returns-6 : tie.Need-returns-6
 unfolding expressionsNo
-returns-6 c = rw (c .refusal-for5 .ensures, c .before .address-wanted .ensures, c .before .before .before .x6 .given .1)
+returns-6 c = rw (c .refusal-for5 .ensures, c .before .constant-wanted .ensures, c .before .before .before .x6 .given .1)
 
 returns-7 : tie.Need-returns-7
 unfolding expressionsNo
@@ -103,15 +103,15 @@ expressions-no-spec =
     tie.close
     (tie.spec
     enum-known-x
-    place-no-requires
-    place-no-requires-2
+    address-no-requires
+    address-no-requires-2
     lower-of-requires
     enum-known-x-2
-    place-no-requires-3
+    address-no-requires-3
     refusal-for-requires
     lower-of-requires-2
     enum-known-x-3
-    place-no-requires-4
+    address-no-requires-4
     enum-known-x-4
     first-wanted-requires
     refusal-for-requires-2
@@ -121,7 +121,7 @@ expressions-no-spec =
     first-wanted-requires-2
     refusal-for-requires-4
     enum-known-x-6
-    address-wanted-requires
+    constant-wanted-requires
     refusal-for-requires-5
     enum-told
     returns

@@ -1,9 +1,9 @@
 -- `item_code` meets its contract, by its test.
 use borrow.Author.Tests.{le-leb, lt-leb}
-use Rattle.statements.specs.Codes.{itemCode}
+use Rattle.places.specs.Codes.{itemCode}
 use borrow.Author.Needs.{needs}
-use Rattle.statements.proofs.codes.item_code.Statement.{statement}
-use Rattle.statements.proofs.codes.item_code.Tie as tie
+use Rattle.places.proofs.codes.item_code.Statement.{statement}
+use Rattle.places.proofs.codes.item_code.Tie as tie
 
 returns : tie.Need-returns
 unfolding itemCode

@@ -1,9 +1,9 @@
 -- `register_code` meets its contract, by the tests that led to each answer.
 use borrow.Author.Tests.{le-leb, lt-leb}
-use Rattle.statements.specs.Codes.{registerCode}
+use Rattle.places.specs.Codes.{registerCode}
 use borrow.Author.Needs.{needs}
-use Rattle.statements.proofs.codes.register_code.Statement.{statement}
-use Rattle.statements.proofs.codes.register_code.Tie as tie
+use Rattle.places.proofs.codes.register_code.Statement.{statement}
+use Rattle.places.proofs.codes.register_code.Tie as tie
 
 returns : tie.Need-returns
 unfolding registerCode

@@ -1,9 +1,9 @@
 -- `written_code` meets its contract, by its test.
 use borrow.Author.Tests.{le-leb, lt-leb}
-use Rattle.statements.specs.Codes.{writtenCode}
+use Rattle.places.specs.Codes.{writtenCode}
 use borrow.Author.Needs.{needs}
-use Rattle.statements.proofs.codes.written_code.Statement.{statement}
-use Rattle.statements.proofs.codes.written_code.Tie as tie
+use Rattle.places.proofs.codes.written_code.Statement.{statement}
+use Rattle.places.proofs.codes.written_code.Tie as tie
 
 returns : tie.Need-returns
 unfolding writtenCode

@@ -1,7 +1,7 @@
--- `place_no` meets its contract, by what its calls answer.
+-- `address_no` meets its contract, by what its calls answer.
 use borrow.Author.Needs.{needs}
-use Rattle.statements.proofs.kinds.place_no.Statement.{statement}
-use Rattle.statements.proofs.kinds.place_no.Tie as tie
+use Rattle.operands.proofs.kinds.address_no.Statement.{statement}
+use Rattle.operands.proofs.kinds.address_no.Tie as tie
 
 refusal-for-requires : tie.Need-refusal-for-requires
 refusal-for-requires c κs = search needs
@@ -21,8 +21,8 @@ lower-of-requires-2 c κs = search needs
 returns : tie.Need-returns
 returns c = rw (c .lower-of2 .ensures, c .before .lower-of .ensures, c .before .before .item-no2 .ensures, c .before .before .before .item-no .ensures, c .before .before .before .before .refusal-for .ensures)
 
-pub place-no-spec : {M : Type 1} → statement M
-place-no-spec =
+pub address-no-spec : {M : Type 1} → statement M
+address-no-spec =
     tie.close
     (tie.spec
     refusal-for-requires
