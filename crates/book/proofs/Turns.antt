@@ -8,6 +8,9 @@ use native.Mathlib.Omega.{arith}
 use lib.ListN.{length}
 use lib.Dec.{eqb}
 use borrow.Author.Tests.{eq-eqb, ne-eqb, eqb-true, eqb-false}
+use types.Run.{OneOf}
+use denote.Enum.Declared.{tagOf}
+use mathlib.Core.Logic.{⊎-elim}
 use Rattle.values.specs.Tests.{pick}
 use Rattle.book.specs.declared.Entry.{Entry}
 use Rattle.book.specs.declared.Cursor.{Cursor}
@@ -21,6 +24,7 @@ use Rattle.book.specs.Reading.{stepAt, placeAt, behind, recordThere, hea
 use Rattle.values.proofs.Laws.{held, part-length}
 use Rattle.book.proofs.Laws.{text-length, whole-is, fields-few}
 use Rattle.book.proofs.Header.{short-header}
+use Rattle.book.proofs.Step.{the-type}
 
 -- WHAT THE READER'S ANSWER SAYS
 
@@ -247,3 +251,9 @@ module _ (s : List ℕ) (at last : ℕ) (P : List Record → Type 0) (l : Left s
 
   pub never : Broken ≡ stepAt s at last → ⊥
   never q = let (f, rs, is, holds) = l in let e = turn-broken s at last f q in let z : _≡_ {A = ℕ} 0 1 = cc in omega arith
+
+  -- no record is there: it is the end
+  pub no-more : (x : Step) → OneOf (1 ∷ 2 ∷ []) (tagOf the-type x) → x ≡ stepAt s at last → P []
+  no-more (Step.Record p c) k q = absurd (⊎-elim (λ h. omega arith) (λ h. omega arith) k)
+  no-more End k q = ended q
+  no-more Broken k q = absurd (never q)
