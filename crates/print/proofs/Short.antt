@@ -1,5 +1,5 @@
 -- What the printer writes is never longer than 196,608 bytes: three for each byte of an input that it takes.
-use Prim.Native.Nat.{ℕ, zero, suc, _+_, _*_, _≤_, _<_}
+use Prim.Native.Nat.{ℕ, zero, suc, _+_, _*_, _≤_}
 use mathlib.Core.List.{List, [], _∷_}
 use mathlib.Core.Path.{_≡_, refl, sym, ap, _∙_}
 use mathlib.Core.Bool.{Bool, true, false}
@@ -10,9 +10,8 @@ use lib.Dec.{ltb, eqb}
 use borrow.Author.Tests.{eqb-true, eqb-false, ltb-true, ltb-false}
 use Rattle.values.specs.Tests.{pick}
 use Rattle.values.proofs.Laws.{part-length}
-use Rattle.book.specs.Book.{Record, recordsFrom, onto, recordOk, restAt, countAt, sizeAt, cardAt, nextAt, recordAt}
+use Rattle.book.specs.Book.{Record, recordsFrom, onto, recordOk, countAt, sizeAt, cardAt, nextAt, recordAt}
 use Rattle.book.specs.Reading.{layoutOf, recordsIn}
-use Rattle.book.specs.declared.Entry.{Entry}
 use Rattle.book.specs.declared.Layout.{Layout}
 use Rattle.book.specs.declared.Layout.the-variants.{Whole, Broken}
 use Rattle.book.proofs.Laws.{text-length, whole-is}

@@ -1,11 +1,11 @@
--- `put_head` meets its contract. Four columns written one after the other.
+-- `put_head_columns` meets its contract. Four columns written one after the other.
 use borrow.Author.Needs.{needs}
 use native.Mathlib.Omega.{arith}
 use mathlib.Core.Path.{sym, ap, _∙_}
 use lib.Seq.{sets}
 use Rattle.print.proofs.Laws.{head-is, then-column}
-use Rattle.print.proofs.put_head.Statement.{statement}
-use Rattle.print.proofs.put_head.Tie as tie
+use Rattle.print.proofs.put_head_columns.Statement.{statement}
+use Rattle.print.proofs.put_head_columns.Tie as tie
 
 add-rest : tie.Need-add-rest
 add-rest c = search needs
@@ -43,8 +43,8 @@ returns c =
           ∙ ap (λ l. sets (a .m .now) (a .to) l) (sym (head-is (a .p .count) (a .p .size) (a .p .card) (a .p .address .0))),
     )
 
-pub put-head-spec : {M : Type 1} → statement M
-put-head-spec =
+pub put-head-columns-spec : {M : Type 1} → statement M
+put-head-columns-spec =
     tie.close
     (tie.spec
     add-rest
