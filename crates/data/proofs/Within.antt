@@ -23,7 +23,7 @@ use Rattle.data.specs.declared.DataType.the-variants.{Characters, Hexade
 use Rattle.data.specs.declared.Data.{Data}
 use Rattle.data.specs.declared.DataForm.{DataForm}
 use Rattle.data.specs.declared.head.Typed.{Typed}
-use Rattle.data.specs.declared.head.Written.{Written}
+use Rattle.data.specs.declared.head.WrittenLength.{WrittenLength}
 use Rattle.data.specs.declared.head.Head.{Head}
 use Rattle.data.specs.declared.head.HeadForm.{HeadForm}
 use Rattle.data.specs.declared.value.Extent.{Extent}
@@ -156,12 +156,12 @@ length-within s kind copies at l = go (stands "L" s at) refl
     upTo i end w = by (eqb end (at + 1)) refl
       where
         by : (x : Bool) → eqb end (at + 1) ≡ x
-            → HeadWithin s (pick x (HeadForm.Fails (at + 1)) (HeadForm.Of (record { kind = kind; copies = copies; length = Written.As (told (Rattle.data.specs.Runs.numberFrom (end - (at + 1)) s (at + 1) 0)); next = end })))
+            → HeadWithin s (pick x (HeadForm.Fails (at + 1)) (HeadForm.Of (record { kind = kind; copies = copies; length = WrittenLength.As (told (Rattle.data.specs.Runs.numberFrom (end - (at + 1)) s (at + 1) 0)); next = end })))
         by true e = omega arith
         by false e = let n = eqb-false end (at + 1) e in w .1 (omega arith)
 
     go : (x : Bool) → stands "L" s at ≡ x
-        → HeadWithin s (pick x (lengthUpTo s kind copies (at + 1) (digitsEnd 10 s (at + 1))) (HeadForm.Of (record { kind = kind; copies = copies; length = Written.Absent; next = at })))
+        → HeadWithin s (pick x (lengthUpTo s kind copies (at + 1) (digitsEnd 10 s (at + 1))) (HeadForm.Of (record { kind = kind; copies = copies; length = WrittenLength.Absent; next = at })))
     go true e = upTo (stands-inside 76 s at (omega arith) e) (digitsEnd 10 s (at + 1)) (digits-within 10 s (at + 1) (omega arith))
     go false e = l
 

@@ -1,5 +1,5 @@
 -- The rules of the operation table, computed: its letters rise, it is the list of Model 10's operations, and no mnemonic is there twice.
-use Prim.Native.Nat.{ℕ, zero, suc, _+_, _≤_, _<_}
+use Prim.Native.Nat.{ℕ, zero, suc, _+_, _-_, _≤_, _<_}
 use mathlib.Core.List.{List, [], _∷_, map}
 use mathlib.Core.Path.{_≡_, refl, sym, ap, _∙_}
 use mathlib.Core.Bool.{Bool, true, false}
@@ -12,23 +12,27 @@ use Rattle.values.specs.Tests.{pick, both}
 use Rattle.letters.proofs.Every.{every, both-left, both-right}
 use Rattle.operations.specs.Rows.{lettersOf, number5, Row, operationIn}
 use Rattle.operations.specs.Model10.{ownOperations, twoAddresses, oneAddresses, branches, jumps, extendedMoves, extendedBranches, extendedJumps, model10}
-use Rattle.operations.specs.Sorted.{keyAt, rowFrom, rowIn, Rising, mnemonics, sortedLetters, sortedOperations}
+use Rattle.operations.specs.Sorted.{keyAt, rowFrom, rowIn, Rising, inserted, sorted, sortedLetters, sortedOperations}
 use Rattle.operations.specs.declared.Operation.{Operation}
 use Rattle.operations.specs.declared.Operation.the-variants.{Unknown}
 use Rattle.operations.proofs.Search.{row-found, row-within, rises, rising-by}
 
 -- THE LETTERS RISE
 
-rises-everywhere : every (rises sortedLetters) 0 74 ≡ true
-unfolding every sortedLetters mnemonics lettersOf number5
+-- the steps from a row to the next
+steps : ℕ
+steps = length sortedLetters - 1
+
+rises-everywhere : every (rises sortedLetters) 0 steps ≡ true
+unfolding steps every sortedLetters sorted inserted model10 ownOperations twoAddresses oneAddresses branches jumps extendedMoves extendedBranches extendedJumps lettersOf number5
 rises-everywhere = refl
 
-pub sorted-length : length sortedLetters ≡ 75
-unfolding sortedLetters mnemonics
+sorted-length : length sortedLetters ≡ steps + 1
+unfolding steps sortedLetters sorted inserted model10 ownOperations twoAddresses oneAddresses branches jumps extendedMoves extendedBranches extendedJumps lettersOf number5
 sorted-length = refl
 
 pub sorted-rising : Rising sortedLetters
-sorted-rising = rising-by sortedLetters 74 sorted-length rises-everywhere
+sorted-rising = rising-by sortedLetters steps sorted-length rises-everywhere
 
 -- EACH ROW IS WHAT THE LIST SAYS OF ITS LETTERS
 
@@ -37,7 +41,7 @@ abbrev pub said : List ℕ → Operation
 said letters = operationIn model10 (number5 letters)
 
 pub each-row : map said sortedLetters ≡ sortedOperations
-unfolding operationIn model10 ownOperations twoAddresses oneAddresses branches jumps extendedMoves extendedBranches extendedJumps sortedLetters mnemonics sortedOperations lettersOf number5
+unfolding operationIn model10 ownOperations twoAddresses oneAddresses branches jumps extendedMoves extendedBranches extendedJumps sortedLetters sortedOperations sorted inserted lettersOf number5
 each-row = refl
 
 -- past the last row no letters stand, and they are no operation
@@ -58,7 +62,7 @@ inRows ls [] = true
 inRows ls (r ∷ rs) = both (ltb (rowIn ls (number5 (r .letters))) (length ls)) (inRows ls rs)
 
 pub all-in-rows : inRows sortedLetters model10 ≡ true
-unfolding inRows rowFrom model10 ownOperations twoAddresses oneAddresses branches jumps extendedMoves extendedBranches extendedJumps sortedLetters mnemonics lettersOf number5
+unfolding inRows rowFrom model10 ownOperations twoAddresses oneAddresses branches jumps extendedMoves extendedBranches extendedJumps sortedLetters sorted inserted lettersOf number5
 all-in-rows = refl
 
 not-in-rows : (ls : List (List ℕ)) (rs : List Row) (key : ℕ) → inRows ls rs ≡ true → length ls ≤ rowIn ls key → operationIn rs key ≡ Unknown

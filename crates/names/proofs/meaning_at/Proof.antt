@@ -1,7 +1,7 @@
--- `entry_at` meets its contract, by those of the parts that it reads.
+-- `meaning_at` meets its contract, by those of the parts that it reads.
 use borrow.Author.Needs.{needs}
-use Rattle.names.proofs.entry_at.Statement.{statement}
-use Rattle.names.proofs.entry_at.Tie as tie
+use Rattle.names.proofs.meaning_at.Statement.{statement}
+use Rattle.names.proofs.meaning_at.Tie as tie
 
 add-value-of : tie.Need-add-value-of
 add-value-of c = search needs
@@ -27,8 +27,8 @@ word-at-requires-2 c κs = search needs
 returns : tie.Need-returns
 returns c = rw (c .word-at2 .ensures, c .before .value-of .ensures, c .before .before .word-at .ensures)
 
-pub entry-at-spec : {M : Type 1} → statement M
-entry-at-spec =
+pub meaning-at-spec : {M : Type 1} → statement M
+meaning-at-spec =
     tie.close
     (tie.spec
     add-value-of

@@ -1,7 +1,7 @@
--- `entry_factor` meets its contract, case by case.
+-- `meaning_factor` meets its contract, case by case.
 use borrow.Author.Needs.{needs}
-use Rattle.expressions.proofs.factors.entry_factor.Statement.{statement}
-use Rattle.expressions.proofs.factors.entry_factor.Tie as tie
+use Rattle.expressions.proofs.factors.meaning_factor.Statement.{statement}
+use Rattle.expressions.proofs.factors.meaning_factor.Tie as tie
 
 enum-known-e : tie.Need-enum-known-e
 enum-known-e c = search needs
@@ -18,6 +18,6 @@ returns c = search needs
 returns-2 : tie.Need-returns-2
 returns-2 c = rw (c .enum-told .given .1)
 
-pub entry-factor-spec : {M : Type 1} → statement M
-entry-factor-spec =
+pub meaning-factor-spec : {M : Type 1} → statement M
+meaning-factor-spec =
     tie.close (tie.spec enum-known-e value-factor-requires enum-told returns returns-2)
