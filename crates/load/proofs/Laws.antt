@@ -20,6 +20,7 @@ use Rattle.book.proofs.Turns.{book-none, book-is}
 use Rattle.fields.specs.Fields.{overField, movedText}
 use Rattle.fields.proofs.Laws.{moved-low}
 use Rattle.values.proofs.Sums.{moved-to}
+use Rattle.values.proofs.Laws.{clash}
 use Rattle.load.specs.declared.Loaded.{Loaded}
 use Rattle.load.specs.declared.Loaded.the-variants.{Broken, Outside, Over}
 use Rattle.load.specs.Load.{Outcome, firstCard, movedAddress, outsideAt, outside, roomIn, storedAt, stored, storedAll, bytesStored, refused, judgedEntry, judged, loading}
@@ -58,7 +59,7 @@ inside-is d room r e = go (movedAddress d r) refl e
         let (is, low) = moved-to d (record { 0 = r .address }) a q in
         let ends = ltb-false room (a .0 + length (r .text)) k in
         (low, omega arith)
-    go Moved.Over q k = let z : _≡_ {A = ℕ} 0 1 = cc in absurd (omega arith)
+    go Moved.Over q k = clash (cc)
 
 -- STORING
 

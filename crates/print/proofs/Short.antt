@@ -9,7 +9,7 @@ use lib.ListN.{length, length-append}
 use lib.Dec.{ltb, eqb}
 use borrow.Author.Tests.{eqb-true, eqb-false, ltb-true, ltb-false}
 use Rattle.values.specs.Tests.{pick}
-use Rattle.values.proofs.Laws.{part-length}
+use Rattle.values.proofs.Laws.{clash, part-length}
 use Rattle.book.specs.Book.{Record, recordsFrom, onto, recordOk, countAt, sizeAt, cardAt, nextAt, recordAt}
 use Rattle.book.specs.Reading.{layoutOf, recordsIn}
 use Rattle.book.specs.declared.Layout.{Layout}
@@ -29,7 +29,7 @@ offsets-short count = go (eqb count 0) refl
 -- the lines of the records from a place on take at most three bytes for each byte from there on
 lines-short : (n : ℕ) (s : List ℕ) (at last : ℕ) (rs : List Record) → recordsFrom n s at last ≡ some rs → length (recordLines rs) + 3 * at ≤ 3 * length s
 unfolding recordsFrom
-lines-short zero s at last rs q = let z : _≡_ {A = ℕ} 0 1 = cc in absurd (omega arith)
+lines-short zero s at last rs q = clash (cc)
 lines-short (suc n) s at last rs q =
     go (lines-short n s (nextAt s at) (cardAt s at)) (eqb at (length s)) (recordOk s at last) (recordsFrom n s (nextAt s at) (cardAt s at)) refl refl refl q
   where
@@ -41,8 +41,8 @@ lines-short (suc n) s at last rs q =
         let is : [] ≡ rs = cc in
         let l = ap (λ x. length (recordLines x)) (sym is) ∙ ap length lines-none in
         omega arith
-    go others false false o h k r e = let z : _≡_ {A = ℕ} 0 1 = cc in absurd (omega arith)
-    go others false true none h k r e = let z : _≡_ {A = ℕ} 0 1 = cc in absurd (omega arith)
+    go others false false o h k r e = clash (cc)
+    go others false true none h k r e = clash (cc)
     go others false true (some rest) h k r e =
         let is : recordAt s at ∷ rest ≡ rs = cc in
         let w = whole-is s at last k in

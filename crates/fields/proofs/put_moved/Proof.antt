@@ -6,7 +6,7 @@ use mathlib.Core.Path.{_≡_, refl, sym, ap, subst, _∙_}
 use mathlib.Core.List.{List, _∷_}
 use mathlib.Core.Bool.{false}
 use lib.ListN.{length, drop, drop-of-length-le}
-use Rattle.values.proofs.Laws.{drop-turn, part-between, between-length}
+use Rattle.values.proofs.Laws.{clash, drop-turn, part-between, between-length}
 use Rattle.book.specs.Reading.{recordThere}
 use Rattle.fields.specs.Fields.{overIn}
 use lib.Seq.{sets}
@@ -69,7 +69,7 @@ not-over : (c : tie.After-enum-told Inv-loop μ-loop) → ⊥
 not-over c =
     let a = c .before .before .before .before .before .before .before .before .before .before .before .before .before .before .args in let l = c .before .before .before .before .before .loop in let o = c .before .before .before .offset-at .result in let text = recordThere (a .book .now) (a .p) .text in
     let no-more = sym (l .inv .2) ∙ ap (λ os. overIn (a .d) text os) (left (c .before .before .before)) ∙ over-here (a .d) text o _ (sym (c .enum-told .given .1) ∙ c .before .before .moved-field .ensures) in
-    let z : _≡_ {A = ℕ} 0 1 = cc no-more in omega arith
+    clash (cc no-more)
 
 same-length : tie.Need-same-length Inv-loop μ-loop
 same-length c = absurd (not-over c)
