@@ -44,7 +44,7 @@ fn put_column(m: &mut [u8], to: usize, bytes: &[u8], end: u8) -> usize
 }
 
 // A number of two bytes in hex, and a blank.
-fn put_number(m: &mut [u8], to: usize, n: u16) -> usize
+fn put_word_column(m: &mut [u8], to: usize, n: u16) -> usize
     requires { ⌜ to + 5 ≤ length (now m) ⌝ }
     ensures { λ r. ⌜ r ≡ to + 5 ⌝ }
     ensures { λ _. ⌜ now (m .exit) ≡ sets (now (m .entry)) to (column (twoBytes n) 32) ⌝ }
@@ -56,7 +56,7 @@ fn put_number(m: &mut [u8], to: usize, n: u16) -> usize
 }
 
 // A number of one byte in hex, and a blank.
-fn put_count(m: &mut [u8], to: usize, n: u8) -> usize
+fn put_byte_column(m: &mut [u8], to: usize, n: u8) -> usize
     requires { ⌜ to + 3 ≤ length (now m) ⌝ }
     ensures { λ r. ⌜ r ≡ to + 3 ⌝ }
     ensures { λ _. ⌜ now (m .exit) ≡ sets (now (m .entry)) to (column (n ∷ []) 32) ⌝ }
@@ -101,10 +101,10 @@ fn put_head_columns(m: &mut [u8], to: usize, p: Place) -> usize
     ensures { λ _. ⌜ now (m .exit) ≡ sets (now (m .entry)) to (headColumns (p .count) (p .size) (p .card) (p .address .0)) ⌝ }
 {
     let rest = REST_HEAD + p.count + p.size;
-    let card = put_number(m, to, rest as u16);
-    let address = put_number(m, card, p.card);
-    let count = put_number(m, address, p.address.0);
-    put_count(m, count, p.count as u8)
+    let card = put_word_column(m, to, rest as u16);
+    let address = put_word_column(m, card, p.card);
+    let count = put_word_column(m, address, p.address.0);
+    put_byte_column(m, count, p.count as u8)
 }
 
 // The text, and the end of the line.
