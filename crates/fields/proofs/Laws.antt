@@ -3,23 +3,26 @@ use Prim.Native.Nat.{ℕ, zero, suc, _+_, _-_, _≤_, _<_}
 use mathlib.Core.List.{List, [], _∷_}
 use mathlib.Core.Path.{_≡_, refl, sym, ap, _∙_}
 use mathlib.Core.Bool.{true, false}
+use mathlib.Core.Logic.{_⊎_, inl, inr}
 use native.Mathlib.Omega.{arith}
 use lib.ListN.{length, getD}
 use lib.Dec.{leb}
 use lib.Seq.{sets, length-sets}
 use borrow.Author.Tests.{le-leb, leb-true}
-use Rattle.values.specs.Words.{twoBytes}
+use Rattle.values.specs.Tests.{either}
+use Rattle.values.specs.Words.{word, twoBytes}
 use Rattle.values.specs.Values.{movedBy}
 use Rattle.values.specs.declared.Displacement.{Displacement}
 use Rattle.values.specs.declared.Relocatable.{Relocatable}
 use Rattle.values.specs.declared.Moved.{Moved}
 use Rattle.values.specs.declared.Moved.the-variants.{To, Over}
-use Rattle.values.proofs.Laws.{both-true, sets-over, sets-sets}
+use Rattle.values.proofs.Sums.{moved-to}
+use Rattle.values.proofs.Laws.{clash, both-true, sets-over, sets-sets}
 use Rattle.book.proofs.Places.{fields-length}
 use Rattle.book.specs.Book.{Record, fieldsFit}
 use Rattle.book.specs.declared.Place.{Place}
 use Rattle.book.specs.Reading.{recordThere, Sound}
-use Rattle.fields.specs.Fields.{fieldIn, withField, movedIn, overIn, movedText}
+use Rattle.fields.specs.Fields.{fieldIn, withField, isOver, movedIn, overIn, movedText}
 
 -- each offset that fits has its two bytes inside the text
 fits-each : (least size : ℕ) (os : List ℕ) → fieldsFit least size os ≡ true → (k : ℕ) → k < length os → getD os k 0 + 2 ≤ size
@@ -64,6 +67,26 @@ module _ (d : Displacement) where
       → movedIn d was (o ∷ os) t ≡ movedIn d was os (sets t o (twoBytes (v .0)))
   unfolding movedIn
   moved-first was o os t v e = rw (← e)
+
+  -- the first field gets its sum, or stays where the sum is over
+  pub moved-ways : (was : List ℕ) (o : ℕ) (os t : List ℕ)
+      → (movedIn d was (o ∷ os) t ≡ movedIn d was os (sets t o (twoBytes (word was o + d .0)))) ⊎ (movedIn d was (o ∷ os) t ≡ movedIn d was os t)
+  unfolding movedIn
+  moved-ways was o os t = go (movedBy d (fieldIn was o)) refl
+    where
+      go : (x : Moved) → x ≡ movedBy d (fieldIn was o)
+          → (movedIn d was os (withField x o t) ≡ movedIn d was os (sets t o (twoBytes (word was o + d .0)))) ⊎ (movedIn d was os (withField x o t) ≡ movedIn d was os t)
+      go (To v) e = inl (ap (λ n. movedIn d was os (sets t o (twoBytes n))) (moved-to d (fieldIn was o) v e .0))
+      go Over e = inr refl
+
+  -- where no field is over, the first isn't
+  pub under-first : (text : List ℕ) (o : ℕ) (os : List ℕ) → overIn d text (o ∷ os) ≡ false → (word text o + d .0 ≤ 65535) × (overIn d text os ≡ false)
+  unfolding overIn
+  under-first text o os e = go (movedBy d (fieldIn text o)) refl e
+    where
+      go : (x : Moved) → x ≡ movedBy d (fieldIn text o) → either (isOver x) (overIn d text os) ≡ false → (word text o + d .0 ≤ 65535) × (overIn d text os ≡ false)
+      go (To v) q k = (moved-to d (fieldIn text o) v q .1, k)
+      go Over q k = clash (cc)
 
   pub moved-none : (was t : List ℕ) → movedIn d was [] t ≡ t
   unfolding movedIn
