@@ -19,10 +19,10 @@ use Rattle.book.specs.declared.Step.{Step}
 use Rattle.book.specs.declared.Step.the-variants.{End, Broken}
 use Rattle.book.specs.declared.Layout.{Layout}
 use Rattle.book.specs.declared.Layout.the-variants.{Whole}
-use Rattle.book.specs.Book.{Record, Book, recordsFrom, onto, headerOk, entryAt, withEntry, bookOf, recordHead, countAt, recordAt, recordOk}
+use Rattle.book.specs.Book.{Record, Book, recordsFrom, onto, headerOk, entryAt, withEntry, bookOf, recordHead, countAt, recordAt, recordOk, cardAt, nextAt}
 use Rattle.book.specs.Reading.{stepAt, placeAt, behind, recordThere, headerOf, layoutOf, layoutIn, recordsOr, recordsIn, Sound}
 use Rattle.values.proofs.Laws.{clash, held, part-length}
-use Rattle.book.proofs.Laws.{text-length, whole-is, fields-few}
+use Rattle.book.proofs.Laws.{Whole as WholeAt, text-length, whole-is, fields-few}
 use Rattle.book.proofs.Header.{short-header}
 use Rattle.book.proofs.Step.{the-type}
 
@@ -112,6 +112,24 @@ module _ (s : List ℕ) (at last : ℕ) where
   unfolding recordsFrom
   turn-broken zero e = refl
   turn-broken (suc f) e = let (n, bad) = step-is-broken s at last e in rw (ne-eqb _ _ n, bad)
+
+-- what holds at the end, and of a record with those behind it where it holds of these, holds of the records from a place on
+pub by-records : (s : List ℕ) (P : ℕ → ℕ → List Record → Type 0) → ((last : ℕ) → P (length s) last [])
+    → ((at last : ℕ) (rest : List Record) → WholeAt s at last → P (nextAt s at) (cardAt s at) rest → P at last (recordAt s at ∷ rest))
+    → (n at last : ℕ) (rs : List Record) → recordsFrom n s at last ≡ some rs → P at last rs
+unfolding recordsFrom
+by-records s P end more zero at last rs h = clash (cc)
+by-records s P end more (suc n) at last rs h =
+    go (eqb at (length s)) refl (recordOk s at last) refl (recordsFrom n s (nextAt s at) (cardAt s at)) (by-records s P end more n (nextAt s at) (cardAt s at)) h
+  where
+    go : (x : Bool) → eqb at (length s) ≡ x → (y : Bool) → recordOk s at last ≡ y → (o : Option (List Record)) → ((qs : List Record) → o ≡ some qs → P (nextAt s at) (cardAt s at) qs)
+        → pick x (some []) (pick y (onto (recordAt s at) o) none) ≡ some rs → P at last rs
+    go true e y f o ih h =
+        let is : [] ≡ rs = cc in
+        subst (P at last) is (subst (λ i. P i last []) (sym (eqb-true at (length s) e)) (end last))
+    go false e true f none ih h = clash (cc)
+    go false e true f (some qs) ih h = let is : recordAt s at ∷ qs ≡ rs = cc in subst (P at last) is (more at last qs (whole-is s at last f) (ih qs refl))
+    go false e false f o ih h = clash (cc)
 
 -- THE LAYOUT
 
