@@ -1,4 +1,4 @@
--- `put_number` meets its contract. The two bytes of the number, as a column.
+-- `put_word_column` meets its contract. The two bytes of the number, as a column.
 use native.Mathlib.Omega.{arith}
 use mathlib.Core.Path.{_≡_, ap, _∙_}
 use Prim.Native.Nat.{_/_, _%_}
@@ -6,8 +6,8 @@ use mathlib.Core.List.{[], _∷_}
 use lib.Seq.{sets}
 use Rattle.print.specs.Print.{column}
 use borrow.Author.Needs.{needs}
-use Rattle.print.proofs.put_number.Statement.{statement}
-use Rattle.print.proofs.put_number.Tie as tie
+use Rattle.print.proofs.put_word_column.Statement.{statement}
+use Rattle.print.proofs.put_word_column.Tie as tie
 
 cast-high : tie.Need-cast-high
 cast-high c = search needs
@@ -30,8 +30,8 @@ returns c =
     let high : a .n / 256 ≡ a .n / 256 % 256 = omega arith in
     (c .before .before .put-column .ensures .0, c .before .before .put-column .ensures .1 ∙ ap (λ h. sets (a .m .now) (a .to) (column (h ∷ a .n % 256 ∷ []) 32)) high)
 
-pub put-number-spec : {M : Type 1} → statement M
-put-number-spec =
+pub put-word-column-spec : {M : Type 1} → statement M
+put-word-column-spec =
     tie.close
     (tie.spec
     cast-high

@@ -1,12 +1,12 @@
--- `put_header` meets its contract. Four columns written one after the other.
+-- `put_header_line` meets its contract. Four columns written one after the other.
 use borrow.Author.Needs.{needs}
 use native.Mathlib.Omega.{arith}
 use mathlib.Core.Path.{sym, ap, _∙_}
 use Rattle.print.proofs.Laws.{header-is, then-column}
 use Rattle.values.proofs.Laws.{part-length}
 use lib.Seq.{sets}
-use Rattle.print.proofs.put_header.Statement.{statement}
-use Rattle.print.proofs.put_header.Tie as tie
+use Rattle.print.proofs.put_header_line.Statement.{statement}
+use Rattle.print.proofs.put_header_line.Tie as tie
 
 sub-put-column : tie.Need-sub-put-column
 sub-put-column c = search needs
@@ -69,8 +69,8 @@ returns c =
           ∙ ap (λ l. sets (a .m .now) 0 l) (sym (header-is s)),
     )
 
-pub put-header-spec : {M : Type 1} → statement M
-put-header-spec =
+pub put-header-line-spec : {M : Type 1} → statement M
+put-header-line-spec =
     tie.close
     (tie.spec
     sub-put-column
