@@ -7,6 +7,7 @@ use mathlib.Core.Path.{_≡_, sym, _∙_, subst}
 use native.Mathlib.Omega.{arith}
 use lib.ListN.{length}
 use Rattle.values.specs.Tests.{pick}
+use Rattle.values.proofs.Laws.{clash}
 use Rattle.terms.specs.Terms.{stands}
 use Rattle.terms.specs.Names.{nameAt}
 use Rattle.terms.specs.declared.naming.Name.{Name}
@@ -21,7 +22,7 @@ use Rattle.forms.specs.Shape.{shapeOf}
 use Rattle.lines.specs.declared.Line.{Line}
 use Rattle.lines.specs.declared.Reading.{Reading}
 use Rattle.lines.specs.declared.Reading.the-variants.{Comment, BadName, Statement}
-use Rattle.lines.specs.Lines.{lineOf, readingFrom, readingOf, operandIn}
+use Rattle.lines.specs.Lines.{lineOf, readingFrom, readingOf, operandColumns}
 
 module _ (s : List ℕ) where
   pub record LineWithin (l : Line) : Type 0 where
@@ -74,11 +75,11 @@ module _ (s : List ℕ) where
   line-within l e = subst ReadingWithin e reading-within
 
   -- the shape of a line is that of its operation's operand
-  pub line-shape : (l : Line) → readingOf s ≡ Statement l → l .shape ≡ shapeOf (l .operation) (operandIn s l)
+  pub line-shape : (l : Line) → readingOf s ≡ Statement l → l .shape ≡ shapeOf (l .operation) (operandColumns s l)
   unfolding readingOf lineOf
   line-shape l e = go (cardOf s) e
     where
-      go : (c : Card) → readingFrom s c ≡ Statement l → l .shape ≡ shapeOf (l .operation) (operandIn s l)
-      go CardComment e = let z : _≡_ {A = ℕ} 0 1 = cc in absurd (omega arith)
-      go CardBadName e = let z : _≡_ {A = ℕ} 0 1 = cc in absurd (omega arith)
+      go : (c : Card) → readingFrom s c ≡ Statement l → l .shape ≡ shapeOf (l .operation) (operandColumns s l)
+      go CardComment e = clash (cc)
+      go CardBadName e = clash (cc)
       go (CardStatement f) e = let same : l ≡ lineOf s f = cc in rw same
