@@ -1,7 +1,7 @@
--- `place_of` meets its contract, field by field.
+-- `address_of` meets its contract, field by field.
 use borrow.Author.Needs.{needs}
-use Rattle.statements.proofs.operands.place_of.Statement.{statement}
-use Rattle.statements.proofs.operands.place_of.Tie as tie
+use Rattle.operands.proofs.address_of.Statement.{statement}
+use Rattle.operands.proofs.address_of.Tie as tie
 
 evaluate-requires : tie.Need-evaluate-requires
 evaluate-requires c κs = search needs
@@ -18,8 +18,8 @@ implied-length-requires c κs = search needs
 returns : tie.Need-returns
 returns c = rw (c .implied-length .ensures, c .before .item-of2 .ensures, c .before .before .item-of .ensures, c .before .before .before .evaluate .ensures)
 
-pub place-of-spec : {M : Type 1} → statement M
-place-of-spec =
+pub address-of-spec : {M : Type 1} → statement M
+address-of-spec =
     tie.close
     (tie.spec
     evaluate-requires

@@ -1,7 +1,7 @@
 -- `item_of` meets its contract, case by case.
 use borrow.Author.Needs.{needs}
-use Rattle.statements.proofs.operands.item_of.Statement.{statement}
-use Rattle.statements.proofs.operands.item_of.Tie as tie
+use Rattle.operands.proofs.item_of.Statement.{statement}
+use Rattle.operands.proofs.item_of.Tie as tie
 
 enum-told : tie.Need-enum-told
 enum-told c = search needs
