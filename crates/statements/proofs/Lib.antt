@@ -1,2 +1,1 @@
--- The laws of statements that other crates cite.
-pub mod Fits
+mod Cases
