@@ -11,6 +11,8 @@ use Rattle.values.specs.declared.MaybeValue.{MaybeValue}
 use Rattle.values.specs.Values.{withValue, withAbsolute, withRelocatable}
 use Rattle.expressions.specs.declared.Evaluated.{Evaluated}
 use Rattle.expressions.specs.Value.{valueIn, absoluteIn, relocatableIn}
+use Rattle.addresses.specs.declared.Item.{Item}
+use Rattle.forms.specs.Size.{addressSize}
 use Rattle.operations.specs.declared.traits.Use.{Use}
 use Rattle.operations.specs.declared.traits.Use.the-variants.{Jumps, Registers}
 use Rattle.operands.specs.declared.EvaluatedItem.{EvaluatedItem}
@@ -71,10 +73,10 @@ placedNo NoBase = 22
 placedNo OutOfReach = 23
 placedNo Nothing = 0
 
--- R9.6: the bytes of an operand
+-- R9.6: the bytes of an operand, those of an address without a register, or with one
 abbrev pub operandSize : Operand → ℕ
-operandSize (Direct v) = 2
-operandSize (Indexed v r displacement) = 1
+operandSize (Direct v) = addressSize Item.Absent
+operandSize (Indexed v r displacement) = addressSize (Item.At 0)
 
 -- JUMPS
 
