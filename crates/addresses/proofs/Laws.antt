@@ -6,8 +6,8 @@ use mathlib.Core.Bool.{Bool, true, false}
 use mathlib.Core.Path.{_≡_, refl}
 use native.Mathlib.Omega.{arith}
 use lib.ListN.{length}
+use Rattle.letters.specs.Text.{stands}
 use Rattle.values.specs.Tests.{pick}
-use Rattle.terms.specs.Terms.{stands}
 use Rattle.terms.proofs.Within.{stands-inside}
 use Rattle.expressions.specs.declared.form.Form.{Form}
 use Rattle.expressions.specs.declared.form.Form.the-variants.{Ends, Fails as FormFails}

@@ -1,8 +1,8 @@
 -- Document 01, "Instructions", the table's column "Written": an address at a position, from the columns alone. One that fails says the first position at which it could not go on.
 use Prim.Native.Nat.{ℕ, _+_}
 use mathlib.Core.List.{List}
+use Rattle.letters.specs.Text.{stands}
 use Rattle.values.specs.Tests.{pick}
-use Rattle.terms.specs.Terms.{stands}
 use Rattle.expressions.specs.declared.form.Form.{Form}
 use Rattle.expressions.specs.declared.form.Form.the-variants.{Ends, Fails}
 use Rattle.expressions.specs.Form.{formOf, expressionAt}

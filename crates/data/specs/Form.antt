@@ -5,10 +5,10 @@ use mathlib.Core.List.{List}
 use lib.ListN.{length, getD}
 use lib.Dec.{eqb}
 use Rattle.values.specs.Tests.{pick}
-use Rattle.letters.specs.Text.{byte, is}
+use Rattle.letters.specs.Text.{byte, is, stands}
 use Rattle.terms.specs.declared.Quoted.{Quoted}
 use Rattle.terms.specs.declared.Quoted.the-variants.{One, Closed, Nothing}
-use Rattle.terms.specs.Terms.{stands, quotedAt}
+use Rattle.terms.specs.Terms.{quotedAt}
 use Rattle.expressions.specs.declared.form.Form.{Form}
 use Rattle.expressions.specs.declared.form.Form.the-variants.{Ends}
 use Rattle.expressions.specs.Form.{formOf, expressionAt}

@@ -6,11 +6,12 @@ use mathlib.Core.Path.{_≡_, refl, ap, _∙_}
 use native.Mathlib.Omega.{arith}
 use lib.ListN.{length, getD}
 use lib.Dec.{eqb}
+use Rattle.letters.specs.Text.{stands}
 use Rattle.values.specs.Tests.{pick, either}
 use Rattle.values.proofs.Laws.{clash}
 use Rattle.terms.specs.declared.Term.{Term}
 use Rattle.terms.specs.declared.Term.the-variants.{Number, Symbol, Here, Bad}
-use Rattle.terms.specs.Terms.{stands, termAt}
+use Rattle.terms.specs.Terms.{termAt}
 use Rattle.terms.proofs.Within.{Stops, Within, term-within, stands-inside}
 use Rattle.expressions.specs.declared.form.Form.{Form}
 use Rattle.expressions.specs.declared.form.Form.the-variants.{Ends, Fails}

@@ -6,10 +6,11 @@ use mathlib.Core.Path.{_≡_, refl, ap, _∙_}
 use native.Mathlib.Nat.{mul-le-mul}
 use native.Mathlib.Omega.{arith}
 use lib.ListN.{length}
+use Rattle.letters.specs.Text.{stands}
 use Rattle.values.specs.Tests.{pick}
 use Rattle.values.proofs.Laws.{clash}
 use Rattle.names.specs.declared.Meaning.{Meaning}
-use Rattle.terms.specs.Terms.{stands, termAt}
+use Rattle.terms.specs.Terms.{termAt}
 use Rattle.expressions.specs.declared.form.Form.the-variants.{Ends, Fails}
 use Rattle.expressions.specs.declared.sums.Held.{Held}
 use Rattle.expressions.specs.declared.sums.Running.{Running}

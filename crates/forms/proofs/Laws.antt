@@ -13,8 +13,8 @@ use Rattle.terms.specs.declared.Term.{Term}
 use Rattle.terms.specs.declared.Term.the-variants.{Number, Symbol, Here, Bad}
 use Rattle.letters.specs.declared.Class.the-variants.{Letter}
 use Rattle.letters.specs.Letters.{classOf}
-use Rattle.letters.specs.Text.{isFromTo}
-use Rattle.terms.specs.Terms.{stands, decimalAt, hexAt, letteredAt, termOf, termAt}
+use Rattle.letters.specs.Text.{isFromTo, stands}
+use Rattle.terms.specs.Terms.{decimalAt, hexAt, letteredAt, termOf, termAt}
 use Rattle.terms.proofs.Within.{Within, stands-inside, decimal-within, term-within}
 use Rattle.expressions.specs.declared.form.Form.{Form}
 use Rattle.expressions.specs.declared.form.Form.the-variants.{Ends, Fails as FormFails}

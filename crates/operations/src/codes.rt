@@ -2,17 +2,12 @@
 use crate::Operation;
 use crate::traits::Opcode;
 use crate::traits::traits_of;
+use values::words::wide;
 ghost use mathlib.Core.Path.{_≡_};
 ghost use Prim.Native.Nat.{_<_};
 ghost use Rattle.operations.specs.Codes.{halves, twoAddress, oneAddress, branch, byteBy, operationByte};
 
-fn wide(b: u8) -> u32
-    ensures { λ r. ⌜ (r ≡ b) × (r < 256) ⌝ }
-{
-    b as u32
-}
-
-fn of_halves(high: u32, low: u8) -> u8
+fn of_halves(high: usize, low: u8) -> u8
     ensures { λ r. ⌜ r ≡ halves high low ⌝ }
 {
     (high % 16 * 16 + wide(low) % 16) as u8

@@ -2,6 +2,8 @@
 pub mod codes;
 pub mod traits;
 
+use values::words::wide64;
+
 ghost use mathlib.Core.Path.{_≡_};
 ghost use Prim.Native.Nat.{_-_, _<_};
 ghost use lib.ListN.{length, getD};
@@ -198,20 +200,14 @@ const OPERATIONS: [Operation; ROWS] = [
     Operation::TwoLengths(0x4),
 ];
 
-fn wide(b: u8) -> u64
-    ensures { λ r. ⌜ (r ≡ b) × (r < 256) ⌝ }
-{
-    b as u64
-}
-
 fn number_of(t: [u8; 5]) -> u64
     ensures { λ r. ⌜ r ≡ number5 t ⌝ }
 {
-    let a = wide(t[0]);
-    let b = wide(t[1]);
-    let c = wide(t[2]);
-    let d = wide(t[3]);
-    let e = wide(t[4]);
+    let a = wide64(t[0]);
+    let b = wide64(t[1]);
+    let c = wide64(t[2]);
+    let d = wide64(t[3]);
+    let e = wide64(t[4]);
     (((a * 256 + b) * 256 + c) * 256 + d) * 256 + e
 }
 

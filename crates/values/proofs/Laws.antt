@@ -33,7 +33,7 @@ held a b n e =
 
 -- WORDS
 
-abbrev Bytes : List ℕ → Type 0
+abbrev pub Bytes : List ℕ → Type 0
 Bytes a = (k : ℕ) → getD a k 0 < 256
 
 pub word-shift : (xs ys : List ℕ) (n : ℕ) → word (xs ++ ys) (length xs + n) ≡ word ys n
