@@ -1,20 +1,18 @@
 -- Laws of cards: a turn of each reader, and where the fields of a card lie.
-use Prim.Native.Nat.{ℕ, zero, suc, _+_, _-_, _*_, _/_, _%_, _≤_, _<_}
+use Prim.Native.Nat.{ℕ, zero, suc, _+_, _-_, _*_, _≤_, _<_}
 use mathlib.Core.List.{List, [], _∷_}
-use mathlib.Core.Path.{_≡_, refl, sym, ap, _∙_}
+use mathlib.Core.Path.{_≡_, refl, ap, _∙_}
 use mathlib.Core.Bool.{Bool, true, false, not}
 use native.Mathlib.Nat.{not-suc-le-zero}
 use native.Mathlib.Numerals.{sub-one, add-one}
 use native.Mathlib.Omega.{arith}
-use borrow.Author.Tests.{eq-eqb, eqb-true}
-use lib.Dec.{eqb, leb}
 use lib.ListN.{length, getD, drop, drop-of-length-le}
 use lib.Seq.{drop-cons}
 use Rattle.letters.specs.Text.{stands, runEnd}
 use Rattle.letters.proofs.Runs.{run-more, run-stop, run-none, run-bounds}
 use Rattle.values.specs.Tests.{pick, both}
 use Rattle.values.specs.Words.{part}
-use Rattle.letters.specs.Letters.{classOf, isBlank, isAccepted}
+use Rattle.letters.specs.Letters.{classOf, isAccepted}
 use Rattle.cards.specs.Source.{columnsOf, cardsFrom}
 use Rattle.terms.specs.Names.{nameAt}
 use Rattle.terms.specs.declared.naming.NameRead.{NameRead}

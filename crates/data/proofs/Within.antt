@@ -16,7 +16,7 @@ use Rattle.letters.proofs.Laws.{inside}
 use Rattle.letters.proofs.Runs.{run-bounds, run-inside}
 use Rattle.terms.specs.declared.Quoted.{Quoted}
 use Rattle.terms.specs.declared.Quoted.the-variants.{One, Closed, Nothing}
-use Rattle.terms.specs.Terms.{digitAt, quotedAt}
+use Rattle.terms.specs.Terms.{quotedAt}
 use Rattle.terms.proofs.Within.{Stops, QuotedWithin, quoted-within, stands-inside}
 use Rattle.expressions.specs.declared.form.Form.{Form}
 use Rattle.expressions.specs.declared.form.Form.the-variants.{Ends}
@@ -33,7 +33,6 @@ use Rattle.data.specs.declared.head.HeadForm.{HeadForm}
 use Rattle.data.specs.declared.value.Extent.{Extent}
 use Rattle.data.specs.Runs.{digitsEnd, told}
 use Rattle.data.specs.Form.{typeOf, copiesBefore, lengthUpTo, lengthAt, headOf, headFrom, headAt, charactersOn, charactersFrom, charactersAt, runUpTo, runAt, addressOf, addressAt, openingOf, openedAt, valueAt, constantData, constantUpTo, constantBehind, constantOf, constantForm, reserveOf, reserveForm}
-use Rattle.data.proofs.Turns.{digit-inside}
 
 -- RUNS OF DIGITS
 

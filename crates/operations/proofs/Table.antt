@@ -15,7 +15,7 @@ use Rattle.operations.specs.Model10.{ownOperations, twoAddresses, oneAdd
 use Rattle.operations.specs.Sorted.{keyAt, rowFrom, rowIn, Rising, inserted, sorted, sortedLetters, sortedOperations}
 use Rattle.operations.specs.declared.Operation.{Operation}
 use Rattle.operations.specs.declared.Operation.the-variants.{Unknown}
-use Rattle.operations.proofs.Search.{row-found, row-within, rises, rising-by}
+use Rattle.operations.proofs.Search.{row-found, rises, rising-by}
 use Rattle.values.proofs.Laws.{both-true, Bytes, base256-same}
 
 -- THE LETTERS RISE

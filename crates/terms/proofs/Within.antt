@@ -1,7 +1,7 @@
 -- Where a term ends: behind its position and inside the columns; and how large its value and a name's number can be.
 use Prim.Native.Nat.{ℕ, zero, suc, _+_, _-_, _*_, _≤_, _<_}
 use mathlib.Core.List.{List}
-use mathlib.Core.Path.{_≡_, refl, sym, ap, _∙_, subst}
+use mathlib.Core.Path.{_≡_, refl, ap}
 use mathlib.Core.Bool.{Bool, true, false}
 use native.Mathlib.Decide.{decLe}
 use native.Mathlib.Omega.{arith}
@@ -10,7 +10,7 @@ use borrow.Author.Tests.{ltb-true, leb-true, eqb-true, eqb-false, lt-ltb}
 use lib.Dec.{ltb, leb, eqb}
 use lib.ListN.{length, getD}
 use Rattle.values.specs.Tests.{pick}
-use Rattle.letters.specs.Text.{byte, is, stands}
+use Rattle.letters.specs.Text.{stands}
 use Rattle.letters.specs.Letters.{classOf, goesOnName, isAccepted, codeOf, digitOf}
 use Rattle.letters.specs.declared.Class.{Class}
 use Rattle.letters.specs.declared.Class.the-variants.{Letter, Digit, Sign, Blank, Refused}
@@ -26,7 +26,6 @@ use Rattle.terms.specs.Names.{startsAt, goesOnAt, nameEnd, nameByte, nam
 use Rattle.values.proofs.Laws.{Bytes, base256-same, clash}
 use Rattle.letters.proofs.Runs.{run-more, run-bounds, run-inside}
 use Rattle.terms.specs.Terms.{digitAt, withDigit, digitsFrom, decimalOf, decimalAt, closedAt, numeralOf, numeralAt, hexAt, binaryAt, quotedAt, secondOf, firstOf, charactersAt, symbolOf, symbolAt, letteredAt, termOf, termAt}
-use Rattle.terms.proofs.Laws.{inside-name}
 
 -- a place from a position on, inside the columns where the position is
 abbrev pub Stops : List ℕ → ℕ → ℕ → Type 0

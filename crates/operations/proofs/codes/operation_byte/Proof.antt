@@ -1,22 +1,16 @@
+-- `codes::operation_byte` meets its contract.
 use mathlib.Core.Path.{ap, _∙_}
 use Rattle.operations.specs.Codes.{byteBy}
 use borrow.Author.Needs.{needs}
 use Rattle.operations.proofs.codes.operation_byte.Statement.{statement}
 use Rattle.operations.proofs.codes.operation_byte.Tie as tie
-use Rattle.operations.proofs.codes.operation_byte.Reads as reads
-use Rattle.operations.proofs.codes.operation_byte.Lts as lts
-use Rattle.operations.proofs.codes.byte_by.Reads as byte-by-reads
-use Rattle.operations.proofs.traits.traits_of.Reads as traits-of-reads
 
--- src/codes.rt:55:9
 traits-of-requires : tie.Need-traits-of-requires
 traits-of-requires c κs = search needs
 
--- src/codes.rt:57:5
 byte-by-requires : tie.Need-byte-by-requires
 byte-by-requires c κs = search needs
 
--- src/codes.rt:52:1
 returns : tie.Need-returns
 returns c = c .byte-by .ensures ∙ ap (λ t. byteBy (t .opcode) (c .before .before .args .i) (c .before .before .args .j)) (c .before .traits-of .ensures)
 

@@ -1,5 +1,4 @@
 -- `naming::name_byte` meets its contract.
-use native.Mathlib.Omega.{arith}
 use mathlib.Core.Path.{ap, _∙_}
 use borrow.Author.Tests.{lt-ltb, le-ltb}
 use Rattle.terms.specs.Names.{nameByte}
