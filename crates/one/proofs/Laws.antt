@@ -29,7 +29,7 @@ use Rattle.passes.specs.declared.Phase.{Phase}
 use Rattle.passes.specs.declared.Role.{Role}
 use Rattle.passes.specs.declared.Role.the-variants.{Starts, Equates, SetsCounter, Ends, Advances}
 use Rattle.passes.specs.Cards.{roleOf, operandsAt, counterBy, counterAfter, nameValueBy, nameValue, nameLength}
-use Rattle.passes.specs.One.{State, mostNames, ifNamed, earlyBy, earlyNo, over, overNo, lineNo, entered, readingStep, oneNo, stepOne, endedAs, passOne}
+use Rattle.passes.specs.One.{State, mostNames, ifNamed, earlyBy, earlyNo, over, overNo, lineNo, namesAfter, readingStep, oneNo, stepOne, endedAs, passOne}
 use Rattle.passes.specs.One.Passed.{stopped}
 use Rattle.passes.proofs.Turns.{pass-more, pass-stop, pass-end}
 use Rattle.passes.proofs.Fine.{fine}
@@ -90,8 +90,8 @@ over-tests name fits v a b c e f g = rw (e, f, g)
 -- A LINE THAT IS LET THROUGH
 
 module _ (st : State) (s : List ℕ) (l : Line) (r : Role) (x : Operands) (is : r ≡ roleOf (l .operation)) (of : x ≡ earlyOperands r (operandsAt (find (st .names)) (st .counter) s l)) where
-  pub entered-is : enteredBy (st .names) r x (st .counter) l ≡ entered st s l
-  unfolding entered
+  pub entered-is : enteredBy (st .names) r x (st .counter) l ≡ namesAfter st s l
+  unfolding namesAfter
   entered-is = rw (value-is (find (st .names)) (st .counter) s l r x is of)
 
   pub line-enters : readingOf s ≡ Statement l → lineNo st s l ≡ 0 → Enters (st .names) r x (st .counter) l
@@ -110,7 +110,7 @@ pub entered-new : (names : List Name) (r : Role) (x : Operands) (counter : ℕ) 
     → n ≡ nameLength (l .operation) (l .shape) → defined (record { number = l .name; value = v; length = n }) names ≡ enteredBy names r x counter l
 entered-new names r x counter l v n h e f = rw (ne-eqb (l .name) 0 h, e, f)
 
--- a name that may be entered has room in the table
+-- a name that may be namesAfter has room in the table
 pub enters-room : (count : ℕ) (t : List ℕ) (r : Role) (x : Operands) (counter : ℕ) (l : Line) → Enters (namesIn count t) r x counter l → (l .name ≡ 0 → ⊥) → count < mostNames
 enters-room count t r x counter l e n =
     let few = refusal-none mostNames (namesIn count t) (l .name) (if-named (l .name) _ n (e .new)) .1 in

@@ -16,7 +16,7 @@ use Rattle.lines.specs.Lines.{readingOf, operandIn}
 use Rattle.lines.proofs.Laws.{line-shape}
 use Rattle.passes.specs.declared.Role.{Role}
 use Rattle.passes.specs.declared.Role.the-variants.{Starts, Equates, SetsCounter, Ends, Advances}
-use Rattle.passes.specs.Cards.{roleOf, startValue, operandsAt, counterBy, counterAfter}
+use Rattle.passes.specs.Cards.{roleOf, startValue, valueAt, counterBy, counterAfter}
 
 -- START's value has 16 bits
 pub start-fits : (s : List ℕ) (l : Line) → readingOf s ≡ Statement l → startValue (l .shape) < 65536
@@ -41,7 +41,7 @@ pub counter-most : (look : ℕ → Entry) (counter : ℕ) (s : List ℕ) (l : Li
 unfolding counterAfter
 counter-most look counter s l e most a b = go (roleOf (l .operation))
   where
-    go : (r : Role) → counterBy r (operandsAt look counter s l) counter l ≤ most
+    go : (r : Role) → counterBy r (valueAt look counter s l) counter l ≤ most
     go Starts = omega (arith, start-fits s l e)
     go Equates = omega arith
     go SetsCounter = omega (arith, lone-fits look counter (operandIn s l) (l .shape))

@@ -17,7 +17,7 @@ use Rattle.lines.specs.declared.Reading.the-variants.{Comment, BadName, Stateme
 use Rattle.lines.specs.Lines.{readingOf}
 use Rattle.passes.specs.declared.Phase.{Phase}
 use Rattle.passes.specs.declared.Phase.the-variants.{Before, Within, Ended}
-use Rattle.passes.specs.One.{State, mostNames, ifNamed, entered, readingNo, readingStep, oneNo, stepOne, passOne, endedAs}
+use Rattle.passes.specs.One.{State, mostNames, ifNamed, namesAfter, readingNo, readingStep, oneNo, stepOne, passOne, endedAs}
 use Rattle.passes.specs.One.Passed.{through}
 use Rattle.passes.proofs.Turns.{pass-end, pass-turn}
 use Rattle.passes.proofs.Fine.{fine, one-zero}
@@ -25,8 +25,8 @@ use Rattle.passes.proofs.Fine.{fine, one-zero}
 -- what is kept by every name that is new, where there is room for it, is kept by a line
 entered-keeps : (P : List Name → Type 0) (st : State) (s : List ℕ) (l : Line) → ifNamed (l .name) (nameRefusal mostNames (st .names) (l .name)) ≡ 0
     → ((x : Name) → find (st .names) (x .number) ≡ Unknown → length (st .names) < mostNames → P (defined x (st .names)))
-    → P (st .names) → P (entered st s l)
-unfolding entered
+    → P (st .names) → P (namesAfter st s l)
+unfolding namesAfter
 entered-keeps P st s l e d p = go _ refl (eqb (l .name) 0) e
   where
     go : (x : Name) → x .number ≡ l .name → (b : Bool) → pick b 0 (nameRefusal mostNames (st .names) (l .name)) ≡ 0 → P (pick b (st .names) (defined x (st .names)))
@@ -34,15 +34,15 @@ entered-keeps P st s l e d p = go _ refl (eqb (l .name) 0) e
     go x n false e = let r = refusal-none mostNames (st .names) (l .name) e in d x (rw n (r .0)) (r .1)
 
 pub entered-ascending : (st : State) (s : List ℕ) (l : Line) → ifNamed (l .name) (nameRefusal mostNames (st .names) (l .name)) ≡ 0
-    → ascending (st .names) ≡ true → ascending (entered st s l) ≡ true
+    → ascending (st .names) ≡ true → ascending (namesAfter st s l) ≡ true
 entered-ascending st s l e h = entered-keeps (λ ns. ascending ns ≡ true) st s l e (λ x n f. ascending-defined x (st .names) h n) h
 
 pub entered-few : (st : State) (s : List ℕ) (l : Line) → ifNamed (l .name) (nameRefusal mostNames (st .names) (l .name)) ≡ 0
-    → length (st .names) ≤ mostNames → length (entered st s l) ≤ mostNames
+    → length (st .names) ≤ mostNames → length (namesAfter st s l) ≤ mostNames
 entered-few st s l e h = entered-keeps (λ ns. length ns ≤ mostNames) st s l e (λ x n f. omega (arith, defined-length x (st .names))) h
 
 -- what every new name keeps, a pass keeps
-module _ (P : List Name → Type 0) (keeps : (st : State) (s : List ℕ) (l : Line) → ifNamed (l .name) (nameRefusal mostNames (st .names) (l .name)) ≡ 0 → P (st .names) → P (entered st s l)) where
+module _ (P : List Name → Type 0) (keeps : (st : State) (s : List ℕ) (l : Line) → ifNamed (l .name) (nameRefusal mostNames (st .names) (l .name)) ≡ 0 → P (st .names) → P (namesAfter st s l)) where
   step-keeps : (st : State) (s : List ℕ) → oneNo st s ≡ 0 → P (st .names) → P (stepOne st s .names)
   unfolding stepOne
   step-keeps st s e p = go (readingOf s) (one-zero st s e .2)

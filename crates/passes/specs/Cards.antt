@@ -57,16 +57,20 @@ startValue (Reserve d) = 0
 abbrev pub operandsAt : (ℕ → Entry) → ℕ → List ℕ → Line → Operands
 operandsAt look counter s l = operandsOf look counter (operandIn s l) (l .shape)
 
--- THE COUNTER behind a card: START's operand; ORG's operand, "which becomes the counter"; else behind the bytes of the card
-abbrev pub counterBy : Role → Operands → ℕ → Line → ℕ
-counterBy Starts x counter l = startValue (l .shape)
-counterBy Equates x counter l = counter
-counterBy SetsCounter x counter l = amountOf (loneValue x)
-counterBy Ends x counter l = counter
-counterBy Advances x counter l = counter + sizeOf (l .operation) (l .shape)
+-- the value of its only expression, if it has one
+abbrev pub valueAt : (ℕ → Entry) → ℕ → List ℕ → Line → Value
+valueAt look counter s l = loneValue (operandsAt look counter s l)
+
+-- THE COUNTER behind a card whose only expression came to v: START's operand; ORG's operand, "which becomes the counter"; else behind the bytes of the card
+abbrev pub counterBy : Role → Value → ℕ → Line → ℕ
+counterBy Starts v counter l = startValue (l .shape)
+counterBy Equates v counter l = counter
+counterBy SetsCounter v counter l = amountOf v
+counterBy Ends v counter l = counter
+counterBy Advances v counter l = counter + sizeOf (l .operation) (l .shape)
 
 unfoldable pub counterAfter : (ℕ → Entry) → ℕ → List ℕ → Line → ℕ
-counterAfter look counter s l = counterBy (roleOf (l .operation)) (operandsAt look counter s l) counter l
+counterAfter look counter s l = counterBy (roleOf (l .operation)) (valueAt look counter s l) counter l
 
 -- THE NAME
 
@@ -85,16 +89,16 @@ placeNamed counter (Constant d) = counter + d .length - 1
 placeNamed counter (Reserve d) = counter + d .length - 1
 
 -- START's "name is relocatable, value the start"; "EQU gives its operand's value and kind"
-abbrev pub nameValueBy : Role → Operands → ℕ → Line → Value
-nameValueBy Starts x counter l = Relocatable (record { 0 = startValue (l .shape) })
-nameValueBy Equates x counter l = loneValue x
-nameValueBy SetsCounter x counter l = Relocatable (record { 0 = counter })
-nameValueBy Ends x counter l = Relocatable (record { 0 = counter })
-nameValueBy Advances x counter l = Relocatable (record { 0 = placeNamed counter (l .shape) })
+abbrev pub nameValueBy : Role → Value → ℕ → Line → Value
+nameValueBy Starts v counter l = Relocatable (record { 0 = startValue (l .shape) })
+nameValueBy Equates v counter l = v
+nameValueBy SetsCounter v counter l = Relocatable (record { 0 = counter })
+nameValueBy Ends v counter l = Relocatable (record { 0 = counter })
+nameValueBy Advances v counter l = Relocatable (record { 0 = placeNamed counter (l .shape) })
 
 -- the value of a line's name, before any limit
 unfoldable pub nameValue : (ℕ → Entry) → ℕ → List ℕ → Line → Value
-nameValue look counter s l = nameValueBy (roleOf (l .operation)) (operandsAt look counter s l) counter l
+nameValue look counter s l = nameValueBy (roleOf (l .operation)) (valueAt look counter s l) counter l
 
 -- START and EQU: "length 1"; DC and DS: m; an instruction: "its length is the instruction's"
 abbrev pub nameLength : Operation → Shape → ℕ

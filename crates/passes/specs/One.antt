@@ -152,8 +152,8 @@ oneNo st s = orElse (afterEndNo (st .phase)) (orElse (byteNo s) (readingNo st s 
 -- WHAT A CARD DOES
 
 -- a name more, where the line has one
-unfoldable pub entered : State → List ℕ → Line → List Name
-entered st s l =
+unfoldable pub namesAfter : State → List ℕ → Line → List Name
+namesAfter st s l =
     pick (eqb (l .name) 0) (st .names)
     (defined
     (record {
@@ -173,7 +173,7 @@ phaseAfter Advances p = p
 abbrev pub lineStep : State → List ℕ → Line → State
 lineStep st s l = record {
   counter = counterAfter (find (st .names)) (st .counter) s l;
-  names = entered st s l;
+  names = namesAfter st s l;
   phase = phaseAfter (roleOf (l .operation)) (st .phase);
 }
 
@@ -198,7 +198,7 @@ endedAs Before st = stopped 9 0
 endedAs Within st = stopped 9 0
 endedAs Ended st = through st
 
--- the cards from number k on
+-- the cards from card k on
 unfoldable pub passOne : ℕ → State → List (List ℕ) → Passed
 passOne k st [] = endedAs (st .phase) st
 passOne k st (s ∷ ss) = pick (eqb (oneNo st s) 0) (passOne (k + 1) (stepOne st s) ss) (stopped (oneNo st s) k)

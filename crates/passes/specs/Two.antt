@@ -18,7 +18,7 @@ use Rattle.forms.specs.declared.Shape.{Shape}
 use Rattle.forms.specs.declared.Shape.the-variants.{Fails, Nothing, StartAt, Expression, Pair, Target, Two, One, Only, Constant, Reserve}
 use Rattle.statements.specs.declared.places.Base.{Base}
 use Rattle.statements.specs.declared.places.Bases.{Bases}
-use Rattle.statements.specs.Statements.{instructionNo, statementOf, basesAfter, loneValue}
+use Rattle.statements.specs.Statements.{instructionNo, statementOf, basesAfter}
 use Rattle.encode.specs.Pieces.{Piece, textOf, fieldsOf, piecesOf}
 use Rattle.encode.specs.Pieces.Piece.{plain}
 use Rattle.lines.specs.declared.Line.{Line}
@@ -28,9 +28,7 @@ use Rattle.lines.specs.Lines.{readingOf, operandIn}
 use Rattle.passes.specs.declared.Role.{Role}
 use Rattle.passes.specs.declared.Role.the-variants.{Starts, Equates, SetsCounter, Ends, Advances}
 use Rattle.passes.specs.declared.Course.{Course}
-use Rattle.passes.specs.declared.Checked.{Checked}
-use Rattle.passes.specs.declared.Checked.the-variants.{Clean, Bad}
-use Rattle.passes.specs.Cards.{roleOf, operandsAt, counterAfter}
+use Rattle.passes.specs.Cards.{roleOf, operandsAt, valueAt, counterAfter}
 
 -- before the first card
 abbrev pub outset : Course
@@ -59,10 +57,15 @@ readingTwoStep look c s (Statement l) = record {
 unfoldable pub stepTwo : (ℕ → Entry) → Course → List ℕ → Course
 stepTwo look c s = readingTwoStep look c s (readingOf s)
 
--- the cards from number k on
+-- no card is refused, or a number of refusal at a card
+pub data Checked : Type 0 where
+  clean : Checked
+  bad : ℕ → ℕ → Checked
+
+-- the cards from card k on
 unfoldable pub checkTwo : (ℕ → Entry) → ℕ → Course → List (List ℕ) → Checked
-checkTwo look k c [] = Clean
-checkTwo look k c (s ∷ ss) = pick (eqb (twoNo look c s) 0) (checkTwo look (k + 1) (stepTwo look c s) ss) (Bad (twoNo look c s) k)
+checkTwo look k c [] = clean
+checkTwo look k c (s ∷ ss) = pick (eqb (twoNo look c s) 0) (checkTwo look (k + 1) (stepTwo look c s) ss) (bad (twoNo look c s) k)
 
 -- THE BOOK
 
@@ -100,17 +103,17 @@ readingPieces look c s (Statement l) = linePieces look c s l
 unfoldable pub cardPieces : (ℕ → Entry) → Course → List ℕ → List Piece
 cardPieces look c s = readingPieces look c s (readingOf s)
 
-abbrev pub recordOf : ℕ → ℕ → List Piece → Record
-recordOf card address ps = record { card = card; address = address; fields = fieldsOf ps; text = textOf ps }
+abbrev pub recordOfPieces : ℕ → ℕ → List Piece → Record
+recordOfPieces card address ps = record { card = card; address = address; fields = fieldsOf ps; text = textOf ps }
 
 -- "one record for each card that makes at least one byte, in card order"
 abbrev pub withRecord : ℕ → ℕ → List Piece → List Record → List Record
 withRecord card address [] rs = rs
-withRecord card address (p ∷ ps) rs = recordOf card address (p ∷ ps) ∷ rs
+withRecord card address (p ∷ ps) rs = recordOfPieces card address (p ∷ ps) ∷ rs
 
-unfoldable pub recordsFrom : (ℕ → Entry) → ℕ → Course → List (List ℕ) → List Record
-recordsFrom look k c [] = []
-recordsFrom look k c (s ∷ ss) = withRecord k (c .counter) (cardPieces look c s) (recordsFrom look (k + 1) (stepTwo look c s) ss)
+unfoldable pub cardRecords : (ℕ → Entry) → ℕ → Course → List (List ℕ) → List Record
+cardRecords look k c [] = []
+cardRecords look k c (s ∷ ss) = withRecord k (c .counter) (cardPieces look c s) (cardRecords look (k + 1) (stepTwo look c s) ss)
 
 -- "END takes a relocatable operand (the entry) or none"
 abbrev pub entryBy : Value → BookEntry
@@ -127,11 +130,11 @@ roleEntry Advances v rest = rest
 abbrev pub readingEntry : (ℕ → Entry) → Course → List ℕ → Reading → BookEntry → BookEntry
 readingEntry look c s Comment rest = rest
 readingEntry look c s BadName rest = rest
-readingEntry look c s (Statement l) rest = roleEntry (roleOf (l .operation)) (loneValue (operandsAt look (c .counter) s l)) rest
+readingEntry look c s (Statement l) rest = roleEntry (roleOf (l .operation)) (valueAt look (c .counter) s l) rest
 
 unfoldable pub entryFrom : (ℕ → Entry) → Course → List (List ℕ) → BookEntry
 entryFrom look c [] = Absent
 entryFrom look c (s ∷ ss) = readingEntry look c s (readingOf s) (entryFrom look (stepTwo look c s) ss)
 
 unfoldable pub bookFrom : (ℕ → Entry) → List (List ℕ) → Book
-bookFrom look ss = record { entry = entryFrom look outset ss; records = recordsFrom look 1 outset ss }
+bookFrom look ss = record { entry = entryFrom look outset ss; records = cardRecords look 1 outset ss }

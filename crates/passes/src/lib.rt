@@ -4,10 +4,10 @@ use forms::size_of;
 use lines::Line;
 use names::amount_of;
 use operations::Operation;
-use statements::lone_value;
 use statements::operands::Operands;
 use statements::operands::operands_of;
 use statements::places::Bases;
+use values::Value;
 ghost use mathlib.Core.Path.{_≡_};
 ghost use mathlib.Core.Bool.{true};
 ghost use Prim.Native.Nat.{_+_, _*_, _^_, _≤_, _<_};
@@ -37,12 +37,6 @@ pub enum Phase {
 pub struct Course {
     pub counter: u32,
     pub bases: Bases,
-}
-
-// What pass two finds: no card is refused, or a number of refusal at a card.
-pub enum Checked {
-    Clean,
-    Bad(u8, u16),
 }
 
 // An assembly's answer: the book's length and the count of names, or a number of refusal with its card.
@@ -114,18 +108,17 @@ fn widened(n: u16) -> u32
     n as u32
 }
 
-// The counter behind a card of a role, whose expressions came to x.
-pub fn counter_by(role: Role, x: Operands, counter: u32, l: Line) -> u32
+// The counter behind a card of a role, whose only expression came to v.
+pub fn counter_by(role: Role, v: Value, counter: u32, l: Line) -> u32
     requires { ⌜ counter + sizeOf (l .operation) (l .shape) < 2 ^ 32 ⌝ }
-    ensures { λ r. ⌜ r ≡ counterBy role x counter l ⌝ }
+    ensures { λ r. ⌜ r ≡ counterBy role v counter l ⌝ }
 {
     let operation = l.operation;
     let shape = l.shape;
     match role {
         Role::Starts => widened(start_value(shape)),
-        Role::Equates => counter,
-        Role::SetsCounter => widened(amount_of(lone_value(x))),
-        Role::Ends => counter,
+        Role::SetsCounter => widened(amount_of(v)),
         Role::Advances => counter + size_of(operation, shape) as u32,
+        _ => counter,
     }
 }

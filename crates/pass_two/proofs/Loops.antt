@@ -15,9 +15,9 @@ use Rattle.cards.specs.Source.{columnsOf, cardsFrom}
 use Rattle.cards.proofs.Laws.{cards-more, cards-none}
 use Rattle.lines.specs.Lines.{readingOf}
 use Rattle.passes.specs.declared.Course.{Course}
-use Rattle.passes.specs.declared.Checked.the-variants.{Clean, Bad}
+use Rattle.passes.specs.Two.Checked.{clean, bad}
 use Rattle.passes.specs.Sound.{soundReading, sound}
-use Rattle.passes.specs.Two.{stepTwo, checkTwo, cardPieces, recordsFrom, entryFrom}
+use Rattle.passes.specs.Two.{stepTwo, checkTwo, cardPieces, cardRecords, entryFrom}
 use Rattle.passes.proofs.Turns.{check-more, check-stop, check-end}
 use Rattle.two.specs.declared.Turn.{Turn}
 use Rattle.two.specs.declared.making.Sought.{Sought}
@@ -53,23 +53,23 @@ module _ (width : ℕ) (s : List ℕ) (at left : ℕ) (card : List ℕ) (is : ca
       pub course-most : x .course .counter ≤ c .counter + 65536
       course-most = rw next (step-most look c card ok)
 
-      records-on : recordsBytes (recordsFrom look k c (cardsFrom left width s at))
-          ≡ cardRecord k (c .counter) (cardPieces look c card) ++ recordsBytes (recordsFrom look (k + 1) (x .course) (cardsFrom (left - 1) width s (at + width)))
-      records-on = ap (λ ss. recordsBytes (recordsFrom look k c ss)) first ∙ records-more look k c card (cardsFrom (left - 1) width s (at + width)) ∙ rw next
+      records-on : recordsBytes (cardRecords look k c (cardsFrom left width s at))
+          ≡ cardRecord k (c .counter) (cardPieces look c card) ++ recordsBytes (cardRecords look (k + 1) (x .course) (cardsFrom (left - 1) width s (at + width)))
+      records-on = ap (λ ss. recordsBytes (cardRecords look k c ss)) first ∙ records-more look k c card (cardsFrom (left - 1) width s (at + width)) ∙ rw next
 
-      pub length-on : length (recordsBytes (recordsFrom look k c (cardsFrom left width s at)))
-          ≡ recordLength (textLength (x .text)) (length (textFields (x .text))) + length (recordsBytes (recordsFrom look (k + 1) (x .course) (cardsFrom (left - 1) width s (at + width))))
+      pub length-on : length (recordsBytes (cardRecords look k c (cardsFrom left width s at)))
+          ≡ recordLength (textLength (x .text)) (length (textFields (x .text))) + length (recordsBytes (cardRecords look (k + 1) (x .course) (cardsFrom (left - 1) width s (at + width))))
       length-on =
-          ap length records-on ∙ length-append (cardRecord k (c .counter) (cardPieces look c card)) (recordsBytes (recordsFrom look (k + 1) (x .course) (cardsFrom (left - 1) width s (at + width))))
+          ap length records-on ∙ length-append (cardRecord k (c .counter) (cardPieces look c card)) (recordsBytes (cardRecords look (k + 1) (x .course) (cardsFrom (left - 1) width s (at + width))))
           ∙ rw (made-size look c card x made card-fits k)
 
       -- the card's record laid, and those behind it
       pub laid-on : (m p : List ℕ) (to to′ : ℕ) → p ≡ sets m to (cardRecord k (c .counter) (textPieces (x .text) (part card (x .from) (x .end - x .from))))
           → to′ ≡ to + recordLength (textLength (x .text)) (length (textFields (x .text)))
-          → sets m to (recordsBytes (recordsFrom look k c (cardsFrom left width s at))) ≡ sets p to′ (recordsBytes (recordsFrom look (k + 1) (x .course) (cardsFrom (left - 1) width s (at + width))))
+          → sets m to (recordsBytes (cardRecords look k c (cardsFrom left width s at))) ≡ sets p to′ (recordsBytes (cardRecords look (k + 1) (x .course) (cardsFrom (left - 1) width s (at + width))))
       laid-on m p to to′ laid behind =
           let r = cardRecord k (c .counter) (cardPieces look c card) in
-          let rs = recordsBytes (recordsFrom look (k + 1) (x .course) (cardsFrom (left - 1) width s (at + width))) in
+          let rs = recordsBytes (cardRecords look (k + 1) (x .course) (cardsFrom (left - 1) width s (at + width))) in
           let there : to + length r ≡ to′ = ap (λ n. to + n) (made-size look c card x made card-fits k) ∙ sym behind in
           let is : sets m to r ≡ p = ap (λ ps. sets m to (cardRecord k (c .counter) ps)) (made-are look c card x made) ∙ sym laid in
           ap (sets m to) records-on ∙ sets-append m to r rs ∙ ap (λ l. sets l (to + length r) rs) is ∙ ap (λ n. sets p n rs) there
@@ -88,10 +88,10 @@ module _ (width : ℕ) (s : List ℕ) (at left : ℕ) (card : List ℕ) (is : ca
           ap (checkTwo look k c) first ∙ check-more look k c card _ (sym (ap (λ (x : Turn). x .number) found) ∙ h)
           ∙ ap (λ x. checkTwo look (k + 1) x (cardsFrom (left - 1) width s (at + width))) (sym next)
 
-      pub check-bad : (t .number ≡ 0 → ⊥) → checkTwo look k c (cardsFrom left width s at) ≡ Bad (t .number) k
+      pub check-bad : (t .number ≡ 0 → ⊥) → checkTwo look k c (cardsFrom left width s at) ≡ bad (t .number) k
       check-bad h =
           let number = ap (λ (x : Turn). x .number) found in
-          ap (checkTwo look k c) first ∙ check-stop look k c card _ (λ z. h (number ∙ z)) ∙ ap (λ n. Bad n k) (sym number)
+          ap (checkTwo look k c) first ∙ check-stop look k c card _ (λ z. h (number ∙ z)) ∙ ap (λ n. bad n k) (sym number)
 
       module _ (ok : soundReading (readingOf card) ≡ true) where
         pub turn-fits : (t .size ≤ 256) × (2 * t .fields ≤ t .size)
@@ -103,17 +103,17 @@ module _ (width : ℕ) (s : List ℕ) (at left : ℕ) (card : List ℕ) (is : ca
         pub turn-most : t .course .counter ≤ c .counter + 65536
         turn-most = rw found (course-most (cardMade look c card) refl ok)
 
-        pub turn-length : length (recordsBytes (recordsFrom look k c (cardsFrom left width s at)))
-            ≡ recordLength (t .size) (t .fields) + length (recordsBytes (recordsFrom look (k + 1) (t .course) (cardsFrom (left - 1) width s (at + width))))
+        pub turn-length : length (recordsBytes (cardRecords look k c (cardsFrom left width s at)))
+            ≡ recordLength (t .size) (t .fields) + length (recordsBytes (cardRecords look (k + 1) (t .course) (cardsFrom (left - 1) width s (at + width))))
         turn-length = rw found (length-on (cardMade look c card) refl ok)
 
 -- no card is left
 module _ (width : ℕ) (s : List ℕ) (at left : ℕ) (none : left ≤ 0) (look : ℕ → Entry) (k : ℕ) (c : Course) where
-  pub check-done : checkTwo look k c (cardsFrom left width s at) ≡ Clean
+  pub check-done : checkTwo look k c (cardsFrom left width s at) ≡ clean
   check-done = ap (checkTwo look k c) (cards-none left width s at none) ∙ check-end look k c
 
-  pub records-done : recordsBytes (recordsFrom look k c (cardsFrom left width s at)) ≡ []
-  records-done = ap (λ ss. recordsBytes (recordsFrom look k c ss)) (cards-none left width s at none) ∙ records-none look k c
+  pub records-done : recordsBytes (cardRecords look k c (cardsFrom left width s at)) ≡ []
+  records-done = ap (λ ss. recordsBytes (cardRecords look k c ss)) (cards-none left width s at none) ∙ records-none look k c
 
   pub entry-done : entryFrom look c (cardsFrom left width s at) ≡ Absent
   unfolding entryFrom

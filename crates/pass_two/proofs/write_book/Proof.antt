@@ -12,7 +12,7 @@ use Rattle.passes.specs.Sound.{sound, soundReading}
 use Rattle.names.specs.Names.{find}
 use Rattle.names.specs.Table.{namesIn}
 use Rattle.book.specs.Writing.{recordsBytes}
-use Rattle.passes.specs.Two.{outset, recordsFrom, entryFrom}
+use Rattle.passes.specs.Two.{outset, cardRecords, entryFrom}
 use lib.Seq.{sets}
 use Rattle.two.proofs.Writing.{book-long, book-laid}
 use Rattle.two.proofs.Loops.{sound-on, card-fits, course-most, length-on, laid-on, entry-on, records-done, entry-done}
@@ -24,8 +24,8 @@ use Rattle.two.proofs.write_book.Tie as tie
 abbrev Inv-loop : tie.InvT-loop
 Inv-loop width source table count out₀ columns c₀ entry₀ left₀ at₀ number₀ to₀ out c entry left at number to =
     (at + width * left ≡ length source) × (c .counter + 65536 * left ≤ 262144000) × (number + left ≤ 4001) × (sound (cardsFrom left width source at) ≡ true) × (to + 391 * left ≤ 1564008) × (length out ≡ length out₀)
-    × (8 + length (recordsBytes (recordsFrom (find (namesIn count table)) 1 outset (cardsOf width source))) ≡ to + length (recordsBytes (recordsFrom (find (namesIn count table)) number c (cardsFrom left width source at))))
-    × (sets out₀ 8 (recordsBytes (recordsFrom (find (namesIn count table)) 1 outset (cardsOf width source))) ≡ sets out to (recordsBytes (recordsFrom (find (namesIn count table)) number c (cardsFrom left width source at))))
+    × (8 + length (recordsBytes (cardRecords (find (namesIn count table)) 1 outset (cardsOf width source))) ≡ to + length (recordsBytes (cardRecords (find (namesIn count table)) number c (cardsFrom left width source at))))
+    × (sets out₀ 8 (recordsBytes (cardRecords (find (namesIn count table)) 1 outset (cardsOf width source))) ≡ sets out to (recordsBytes (cardRecords (find (namesIn count table)) number c (cardsFrom left width source at))))
     × (entryFrom (find (namesIn count table)) outset (cardsOf width source) ≡ entryOr entry (entryFrom (find (namesIn count table)) c (cardsFrom left width source at)))
 
 abbrev μ-loop : tie.MeasureT-loop
@@ -54,8 +54,8 @@ loop-holds c =
       sym (ap sound all) ∙ c .before .before .before .before .before .pre .0 .1,
       omega arith,
       refl,
-      ap (λ ss. 8 + length (recordsBytes (recordsFrom look 1 outset ss))) all,
-      ap (λ ss. sets (a .out .now) 8 (recordsBytes (recordsFrom look 1 outset ss))) all,
+      ap (λ ss. 8 + length (recordsBytes (cardRecords look 1 outset ss))) all,
+      ap (λ ss. sets (a .out .now) 8 (recordsBytes (cardRecords look 1 outset ss))) all,
       ap (entryFrom look outset) all,
     )
 
@@ -81,8 +81,8 @@ fits c = card-fits (c .before .before .before .before .before .before .before .b
 
 -- how long its record is with those behind it
 behind : (c : tie.After-make-card Inv-loop μ-loop) → let a = c .before .before .before .before .before .before .before .before .before .args in let l = c .before .before .before .loop in let look = find (namesIn (a .count) (a .table .now)) in let x = c .make-card .result in
-    length (recordsBytes (recordsFrom look (l .number) (l .c) (cardsFrom (l .left) (a .width) (a .source .now) (l .at))))
-    ≡ recordLength (textLength (x .text)) (length (textFields (x .text))) + length (recordsBytes (recordsFrom look (l .number + 1) (x .course) (cardsFrom (l .left - 1) (a .width) (a .source .now) (l .at + a .width))))
+    length (recordsBytes (cardRecords look (l .number) (l .c) (cardsFrom (l .left) (a .width) (a .source .now) (l .at))))
+    ≡ recordLength (textLength (x .text)) (length (textFields (x .text))) + length (recordsBytes (cardRecords look (l .number + 1) (x .course) (cardsFrom (l .left - 1) (a .width) (a .source .now) (l .at + a .width))))
 behind c = let a = c .before .before .before .before .before .before .before .before .before .args in let l = c .before .before .before .loop in length-on (a .width) (a .source .now) (l .at) (l .left) _ (card (c .before)) (c .before .before .loop-test .taken) _ (l .number) (l .c) _ (made c) (good (c .before))
 
 put-made-requires : tie.Need-put-made-requires Inv-loop μ-loop

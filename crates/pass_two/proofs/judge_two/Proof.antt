@@ -13,7 +13,7 @@ use Rattle.names.specs.Names.{find}
 use Rattle.names.specs.Table.{namesIn}
 use Rattle.book.specs.Writing.{recordsBytes, bookBytes}
 use Rattle.passes.specs.Sound.{sound, soundReading}
-use Rattle.passes.specs.Two.{outset, checkTwo, recordsFrom, bookFrom}
+use Rattle.passes.specs.Two.{outset, checkTwo, cardRecords, bookFrom}
 use Rattle.two.specs.declared.Judged.the-variants.{Book}
 use Rattle.two.specs.Steps.{cardTurn, judgedAs}
 use Rattle.two.proofs.Writing.{book-long}
@@ -25,7 +25,7 @@ abbrev Inv-loop : tie.InvT-loop
 Inv-loop width source table count columns c₀ left₀ at₀ k₀ sum₀ c left at k sum =
     (at + width * left ≡ length source) × (c .counter + 65536 * left ≤ 262144000) × (k + left ≤ 4001) × (sound (cardsFrom left width source at) ≡ true) × (sum + 391 * left ≤ 1564008)
     × (checkTwo (find (namesIn count table)) 1 outset (cardsOf width source) ≡ checkTwo (find (namesIn count table)) k c (cardsFrom left width source at))
-    × (8 + length (recordsBytes (recordsFrom (find (namesIn count table)) 1 outset (cardsOf width source))) ≡ sum + length (recordsBytes (recordsFrom (find (namesIn count table)) k c (cardsFrom left width source at))))
+    × (8 + length (recordsBytes (cardRecords (find (namesIn count table)) 1 outset (cardsOf width source))) ≡ sum + length (recordsBytes (cardRecords (find (namesIn count table)) k c (cardsFrom left width source at))))
 
 abbrev μ-loop : tie.MeasureT-loop
 μ-loop width source table count columns c₀ left₀ at₀ k₀ sum₀ c left at k sum = left
@@ -46,7 +46,7 @@ loop-holds : tie.Need-loop-holds Inv-loop μ-loop
 loop-holds c =
     let a = c .before .before .before .before .args in let look = find (namesIn (a .count) (a .table .now)) in let w = source-whole (c .before .before .before .before .args .width) (length (c .before .before .before .before .args .source .now)) (c .before .before .before .before .pre .0 .0) in
     let all = cards-all (a .width) (a .source .now) in let n = w .cards in let few = w .few in
-    rw (c .first-course .ensures) (omega arith, omega arith, omega arith, sym (ap sound all) ∙ c .before .before .before .before .pre .0 .1, omega arith, ap (checkTwo look 1 outset) all, ap (λ ss. 8 + length (recordsBytes (recordsFrom look 1 outset ss))) all)
+    rw (c .first-course .ensures) (omega arith, omega arith, omega arith, sym (ap sound all) ∙ c .before .before .before .before .pre .0 .1, omega arith, ap (checkTwo look 1 outset) all, ap (λ ss. 8 + length (recordsBytes (cardRecords look 1 outset ss))) all)
 
 card-at-requires : tie.Need-card-at-requires Inv-loop μ-loop
 card-at-requires c κs = let w = card-inside (c .before .before .before .before .before .before .args .width) (length (c .before .before .before .before .before .before .args .source .now)) (c .before .loop .at) (c .before .loop .left) (c .before .before .before .before .before .before .pre .0 .0) (c .before .loop .inv .0) (c .loop-test .taken) in let m = w .0 in omega arith

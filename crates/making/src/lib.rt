@@ -1,4 +1,6 @@
-// What a card makes: where its text comes from, and the entry if it is END.
+// What pass two makes of a card: its refusal, where its text comes from, the entry if it is END, and where the pass stands behind it.
+pub mod records;
+
 use book::Entry;
 use data::Data;
 use data::DataType;
@@ -14,6 +16,7 @@ use passes::role_of;
 use statements::Statement;
 use statements::bases_after;
 use statements::lone_value;
+use statements::number_of;
 use statements::operands::Operands;
 use statements::statement_from;
 use values::Value;
@@ -29,7 +32,7 @@ ghost use Rattle.lines.specs.Lines.{readingOf};
 ghost use Rattle.passes.specs.Sound.{soundReading};
 ghost use Rattle.passes.specs.Two.{entryBy};
 ghost use Rattle.book.specs.declared.Entry.the-variants.{Absent};
-ghost use Rattle.two.specs.Steps.{courseBy, textBy, textFrom, entryOr, soughtBy, firstOf, readingMade, madeNone, cardMade};
+ghost use Rattle.making.specs.Steps.{courseBy, textBy, textFrom, entryOr, soughtBy, firstOf, readingMade, madeNone, cardMade};
 
 // The columns of a constant of type C, X or D, or a statement.
 pub enum Text {
@@ -43,8 +46,9 @@ pub enum Sought {
     Found(Entry),
 }
 
-// What a card makes. `from` and `end`: where the columns of its operand start and end.
+// What a card makes. `number`: its refusal, or 0. `from` and `end`: where the columns of its operand start and end.
 pub struct Made {
+    pub number: u8,
     pub text: Text,
     pub from: usize,
     pub end: usize,
@@ -52,14 +56,14 @@ pub struct Made {
     pub course: Course,
 }
 
-// Where pass two stands behind a line whose expressions came to x.
-pub fn course_after(c: Course, l: Line, x: Operands) -> Course
+// Where pass two stands behind a line whose expressions came to x, and its only expression to v.
+fn course_after(c: Course, l: Line, x: Operands, v: Value) -> Course
     requires { ⌜ c .counter + sizeOf (l .operation) (l .shape) < 2 ^ 32 ⌝ }
-    ensures { λ r. ⌜ r ≡ courseBy c l x ⌝ }
+    ensures { λ r. ⌜ r ≡ courseBy c l x v ⌝ }
 {
     let operation = l.operation;
     let bases = c.bases;
-    let counter = counter_by(role_of(operation), x, c.counter, l);
+    let counter = counter_by(role_of(operation), v, c.counter, l);
     let behind = bases_after(operation, x, bases);
     Course {
         counter: counter,
@@ -71,32 +75,21 @@ fn text_by(kind: DataType, d: Data, st: Statement) -> Text
     ensures { λ r. ⌜ r ≡ textBy kind d st ⌝ }
 {
     match kind {
-        DataType::Characters => Text::Columns(d),
-        DataType::Hexadecimal => Text::Columns(d),
-        DataType::Decimal => Text::Columns(d),
         DataType::Address => Text::Stated(st),
+        _ => Text::Columns(d),
     }
 }
 
 // Where the text of a line comes from.
-pub fn text_from(shape: Shape, st: Statement) -> Text
+fn text_from(shape: Shape, st: Statement) -> Text
     ensures { λ r. ⌜ r ≡ textFrom shape st ⌝ }
 {
     match shape {
-        Shape::Fails(_) => Text::Stated(st),
-        Shape::Nothing => Text::Stated(st),
-        Shape::StartAt(_) => Text::Stated(st),
-        Shape::Expression => Text::Stated(st),
-        Shape::Pair(_) => Text::Stated(st),
-        Shape::Target => Text::Stated(st),
-        Shape::Two(_, _) => Text::Stated(st),
-        Shape::One(_, _) => Text::Stated(st),
-        Shape::Only(_) => Text::Stated(st),
         Shape::Constant(d) => {
             let kind = d.kind;
             text_by(kind, d, st)
         }
-        Shape::Reserve(_) => Text::Stated(st),
+        _ => Text::Stated(st),
     }
 }
 
@@ -113,11 +106,8 @@ fn sought_by(role: Role, v: Value) -> Sought
     ensures { λ r. ⌜ r ≡ soughtBy role v ⌝ }
 {
     match role {
-        Role::Starts => Sought::Open,
-        Role::Equates => Sought::Open,
-        Role::SetsCounter => Sought::Open,
         Role::Ends => Sought::Found(entry_by(v)),
-        Role::Advances => Sought::Open,
+        _ => Sought::Open,
     }
 }
 
@@ -151,10 +141,13 @@ fn make_line(c: Course, l: Line, card: &[u8], table: &[u8], count: usize) -> Mad
     let counter = c.counter;
     let bases = c.bases;
     let x = operands_at(l, card, table, count, counter);
+    let number = number_of(operation, x, counter, bases);
     let text = text_from(shape, statement_from(operation, x, counter, bases));
-    let entry = sought_by(role_of(operation), lone_value(x));
-    let course = course_after(c, l, x);
+    let v = lone_value(x);
+    let entry = sought_by(role_of(operation), v);
+    let course = course_after(c, l, x, v);
     Made {
+        number: number,
         text: text,
         from: l.operand,
         end: l.end,
@@ -163,11 +156,12 @@ fn make_line(c: Course, l: Line, card: &[u8], table: &[u8], count: usize) -> Mad
     }
 }
 
-// A comment makes nothing.
+// A comment is not refused, and makes nothing.
 fn make_none(c: Course) -> Made
     ensures { λ r. ⌜ r ≡ madeNone c ⌝ }
 {
     Made {
+        number: 0,
         text: Text::Stated(Statement::None),
         from: 0,
         end: 0,
@@ -176,6 +170,7 @@ fn make_none(c: Course) -> Made
     }
 }
 
+// What a card makes, over the names of a table.
 pub fn make_card(c: Course, card: &[u8], table: &[u8], count: usize) -> Made
     requires { ⌜ (soundReading (readingOf (now card)) ≡ true) × (c .counter + 65536 < 2 ^ 32) ⌝ }
     requires { ⌜ (16 * count ≤ length (now table)) × (ascending (namesIn count (now table)) ≡ true) ⌝ }

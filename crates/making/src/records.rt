@@ -1,6 +1,6 @@
 // A card's record, and the header of a book, laid into a lent slice.
-use crate::making::Made;
-use crate::making::Text;
+use crate::Made;
+use crate::Text;
 use book::Entry;
 use data::sizes::data_size;
 use data::text::put_constant;
@@ -17,8 +17,8 @@ ghost use lib.Seq.{sets};
 ghost use Rattle.values.specs.Words.{twoBytes, fourBytes, part};
 ghost use Rattle.book.specs.Writing.{recordBytes, entryBytes};
 ghost use Rattle.encode.specs.Pieces.{textOf};
-ghost use Rattle.passes.specs.Two.{recordOf};
-ghost use Rattle.two.specs.Steps.{textPieces, textLength, textFields, recordLength, cardRecord, TextFits, MadeFits};
+ghost use Rattle.passes.specs.Two.{recordOfPieces};
+ghost use Rattle.making.specs.Steps.{textPieces, textLength, textFields, recordLength, cardRecord, TextFits, MadeFits};
 
 // How many bytes a text has.
 pub fn text_length(t: Text) -> usize
@@ -87,7 +87,7 @@ fn put_text_bytes(t: Text, o: &[u8], m: &mut [u8], to: usize)
 fn put_record(t: Text, o: &[u8], card: u16, address: u32, m: &mut [u8], to: usize)
     requires { ⌜ TextFits t (now o) ⌝ }
     requires { ⌜ to + (7 + length (textFields t) + textLength t) ≤ length (now m) ⌝ }
-    ensures { λ _. ⌜ now (m .exit) ≡ sets (now (m .entry)) to (recordBytes (recordOf card address (textPieces t (now (o .entry))))) ⌝ }
+    ensures { λ _. ⌜ now (m .exit) ≡ sets (now (m .entry)) to (recordBytes (recordOfPieces card address (textPieces t (now (o .entry))))) ⌝ }
 {
     let size = text_length(t);
     let count = text_count(t);
@@ -105,20 +105,30 @@ fn put_record(t: Text, o: &[u8], card: u16, address: u32, m: &mut [u8], to: usiz
     put_text_bytes(t, o, m, text);
 }
 
-// The record of a card, if it makes a byte; the place behind it.
-pub fn put_made(x: Made, s: &[u8], card: u16, address: u32, m: &mut [u8], to: usize) -> usize
-    requires { ⌜ MadeFits x (now s) ⌝ }
-    requires { ⌜ to + recordLength (textLength (x .text)) (length (textFields (x .text))) ≤ length (now m) ⌝ }
-    ensures { λ r. ⌜ (r ≡ to + recordLength (textLength (x .text)) (length (textFields (x .text)))) × (r ≤ to + 391) ⌝ }
-    ensures { λ _. ⌜ now (m .exit) ≡ sets (now (m .entry)) to (cardRecord card address (textPieces (x .text) (part (now (s .entry)) (x .from) (x .end - x .from)))) ⌝ }
+// The place behind the record of a card, if it makes a byte; where the pass writes, that record is laid.
+pub fn put_made(
+    x: Made,
+    s: &[u8],
+    card: u16,
+    address: u32,
+    writes: bool,
+    m: &mut [u8],
+    to: usize,
+) -> usize
+    requires { ⌜ MadeFits x (now s) × (to + 391 < 2 ^ 32) ⌝ }
+    requires { ⌜ (writes ≡ true → to + madeLength x ≤ length (now m)) ⌝ }
+    ensures { λ r. ⌜ (r ≡ to + madeLength x) × (r ≤ to + 391) ⌝ }
+    ensures { λ _. ⌜ now (m .exit) ≡ sets (now (m .entry)) to (laidIf writes (madeRecord card address x (now (s .entry)))) ⌝ }
 {
     let text = x.text;
     let from = x.from;
     let end = x.end;
     let size = text_length(text);
     let behind = to + record_length(size, text_count(text));
-    if size != 0 {
-        put_record(text, &s[from..end], card, address, m, to);
+    if writes {
+        if size != 0 {
+            put_record(text, &s[from..end], card, address, m, to);
+        }
     }
     behind
 }

@@ -19,7 +19,7 @@ use Rattle.data.proofs.Texts.{text-length}
 use Rattle.encode.specs.Pieces.{Piece, textOf, fieldsOf, piecesOf}
 use Rattle.encode.proofs.Laws.{plain-text, plain-fields, text-none, fields-half}
 use Rattle.passes.specs.declared.Course.{Course}
-use Rattle.passes.specs.Two.{outset, stepTwo, cardPieces, recordOf, withRecord, recordsFrom, entryFrom, bookFrom}
+use Rattle.passes.specs.Two.{outset, stepTwo, cardPieces, recordOfPieces, withRecord, cardRecords, entryFrom, bookFrom}
 use Rattle.two.specs.declared.making.Text.{Text}
 use Rattle.two.specs.declared.making.Made.{Made}
 use Rattle.two.specs.Steps.{textPieces, cardMade, textLength, textFields, recordLength, cardRecord, TextFits, MadeFits}
@@ -62,7 +62,7 @@ module _ (t : Text) (o : List ℕ) where
 
 -- the length of the rest, card, address and count; then the fields; then the text
 pub record-is : (card address : ℕ) (ps : List Piece) (size count : ℕ) → length (textOf ps) ≡ size → length (fieldsOf ps) ≡ count
-    → recordBytes (recordOf card address ps) ≡ (twoBytes (5 + count + size) ++ (twoBytes card ++ (twoBytes (address % 65536) ++ (count ∷ [])))) ++ (fieldsOf ps ++ textOf ps)
+    → recordBytes (recordOfPieces card address ps) ≡ (twoBytes (5 + count + size) ++ (twoBytes card ++ (twoBytes (address % 65536) ++ (count ∷ [])))) ++ (fieldsOf ps ++ textOf ps)
 unfolding recordBytes restBytes
 record-is card address ps size count a b =
     let high : address % 65536 / 256 % 256 ≡ address / 256 % 256 = omega arith in
@@ -78,14 +78,14 @@ pub record-size : (card address : ℕ) (ps : List Piece) (size count : ℕ) → 
 unfolding textOf
 record-size card address [] size count a b = rw (eq-eqb size 0 (sym a))
 record-size card address (p ∷ ps) size count a b =
-    let l = record-long (recordOf card address (p ∷ ps)) in
+    let l = record-long (recordOfPieces card address (p ∷ ps)) in
     rw (ne-eqb size 0 (λ z. let none = text-none (p ∷ ps) (a ∙ z) in let w : _≡_ {A = ℕ} 0 1 = cc in omega arith)) (l ∙ omega arith)
 
 -- a text without a byte has no record, one with a byte has
 pub record-none : (card address : ℕ) (ps : List Piece) → length (textOf ps) ≡ 0 → cardRecord card address ps ≡ []
 record-none card address ps h = rw (text-none ps h)
 
-pub record-some : (card address : ℕ) (ps : List Piece) → (length (textOf ps) ≡ 0 → ⊥) → cardRecord card address ps ≡ recordBytes (recordOf card address ps)
+pub record-some : (card address : ℕ) (ps : List Piece) → (length (textOf ps) ≡ 0 → ⊥) → cardRecord card address ps ≡ recordBytes (recordOfPieces card address ps)
 unfolding textOf
 record-some card address [] h = absurd (h refl)
 record-some card address (p ∷ ps) h = refl
@@ -101,16 +101,16 @@ made-size look c s x e f k =
 
 -- the record of the first card, and those behind it
 pub records-more : (look : ℕ → Entry) (k : ℕ) (c : Course) (s : List ℕ) (ss : List (List ℕ))
-    → recordsBytes (recordsFrom look k c (s ∷ ss)) ≡ cardRecord k (c .counter) (cardPieces look c s) ++ recordsBytes (recordsFrom look (k + 1) (stepTwo look c s) ss)
-unfolding recordsFrom recordsBytes
-records-more look k c s ss = go (cardPieces look c s) (recordsFrom look (k + 1) (stepTwo look c s) ss)
+    → recordsBytes (cardRecords look k c (s ∷ ss)) ≡ cardRecord k (c .counter) (cardPieces look c s) ++ recordsBytes (cardRecords look (k + 1) (stepTwo look c s) ss)
+unfolding cardRecords recordsBytes
+records-more look k c s ss = go (cardPieces look c s) (cardRecords look (k + 1) (stepTwo look c s) ss)
   where
     go : (ps : List Piece) (rs : List Record) → recordsBytes (withRecord k (c .counter) ps rs) ≡ cardRecord k (c .counter) ps ++ recordsBytes rs
     go [] rs = refl
     go (p ∷ ps) rs = refl
 
-pub records-none : (look : ℕ → Entry) (k : ℕ) (c : Course) → recordsBytes (recordsFrom look k c []) ≡ []
-unfolding recordsFrom recordsBytes
+pub records-none : (look : ℕ → Entry) (k : ℕ) (c : Course) → recordsBytes (cardRecords look k c []) ≡ []
+unfolding cardRecords recordsBytes
 records-none look k c = refl
 
 -- THE BOOK
@@ -129,27 +129,27 @@ header-length n Absent = refl
 header-length n (At a) = refl
 
 -- the length of the rest, version and entry; then the records
-book-is : (look : ℕ → Entry) (ss : List (List ℕ)) → let rs = recordsBytes (recordsFrom look 1 outset ss) in
+book-is : (look : ℕ → Entry) (ss : List (List ℕ)) → let rs = recordsBytes (cardRecords look 1 outset ss) in
     bookBytes (bookFrom look ss) ≡ (fourBytes (4 + length rs) ++ (1 ∷ entryBytes (entryFrom look outset ss))) ++ rs
 unfolding bookBytes bookFrom
-book-is look ss = go (entryFrom look outset ss) (recordsBytes (recordsFrom look 1 outset ss))
+book-is look ss = go (entryFrom look outset ss) (recordsBytes (cardRecords look 1 outset ss))
   where
     go : (e : BookEntry) (rs : List ℕ) → fourBytes (4 + length rs) ++ (1 ∷ (entryBytes e ++ rs)) ≡ (fourBytes (4 + length rs) ++ (1 ∷ entryBytes e)) ++ rs
     go Absent rs = refl
     go (At a) rs = refl
 
-pub book-long : (look : ℕ → Entry) (ss : List (List ℕ)) → length (bookBytes (bookFrom look ss)) ≡ 8 + length (recordsBytes (recordsFrom look 1 outset ss))
+pub book-long : (look : ℕ → Entry) (ss : List (List ℕ)) → length (bookBytes (bookFrom look ss)) ≡ 8 + length (recordsBytes (cardRecords look 1 outset ss))
 book-long look ss =
-    let rs = recordsBytes (recordsFrom look 1 outset ss) in
+    let rs = recordsBytes (cardRecords look 1 outset ss) in
     ap length (book-is look ss) ∙ length-append (fourBytes (4 + length rs) ++ (1 ∷ entryBytes (entryFrom look outset ss))) rs
     ∙ rw (header-length (4 + length rs) (entryFrom look outset ss))
 
 -- a header laid before records that are there
-pub book-laid : (look : ℕ → Entry) (ss : List (List ℕ)) (m p q : List ℕ) (size : ℕ) (e : BookEntry) → let rs = recordsBytes (recordsFrom look 1 outset ss) in
+pub book-laid : (look : ℕ → Entry) (ss : List (List ℕ)) (m p q : List ℕ) (size : ℕ) (e : BookEntry) → let rs = recordsBytes (cardRecords look 1 outset ss) in
     p ≡ sets m 8 rs → size ≡ 8 + length rs → e ≡ entryFrom look outset ss → q ≡ sets p 0 (fourBytes (size - 4) ++ (1 ∷ entryBytes e))
     → q ≡ sets m 0 (bookBytes (bookFrom look ss))
 book-laid look ss m p q size e a b c d =
-    let rs = recordsBytes (recordsFrom look 1 outset ss) in
+    let rs = recordsBytes (cardRecords look 1 outset ss) in
     let h = fourBytes (4 + length rs) ++ (1 ∷ entryBytes (entryFrom look outset ss)) in
     let n : size - 4 ≡ 4 + length rs = omega arith in
     let l = header-length (4 + length rs) (entryFrom look outset ss) in

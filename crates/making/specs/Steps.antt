@@ -29,10 +29,10 @@ use Rattle.lines.specs.Lines.{readingOf}
 use Rattle.passes.specs.declared.Role.{Role}
 use Rattle.passes.specs.declared.Role.the-variants.{Starts, Equates, SetsCounter, Ends, Advances}
 use Rattle.passes.specs.declared.Course.{Course}
-use Rattle.passes.specs.declared.Checked.{Checked}
-use Rattle.passes.specs.declared.Checked.the-variants.{Clean, Bad}
+use Rattle.passes.specs.Two.{Checked}
+use Rattle.passes.specs.Two.Checked.{clean, bad}
 use Rattle.passes.specs.Cards.{roleOf, operandsAt, counterBy}
-use Rattle.passes.specs.Two.{readingTwoNo, twoNo, recordOf, entryBy}
+use Rattle.passes.specs.Two.{readingTwoNo, twoNo, recordOfPieces, entryBy}
 use Rattle.two.specs.declared.Judged.{Judged}
 use Rattle.two.specs.declared.Judged.the-variants.{Book, Refused}
 use Rattle.two.specs.declared.Turn.{Turn}
@@ -136,8 +136,8 @@ cardTurn look c s = turnBy (twoNo look c s) (cardMade look c s)
 
 -- the length of the book counts where no card is refused
 abbrev pub judgedAs : Checked → ℕ → Judged
-judgedAs Clean n = Book n
-judgedAs (Bad number card) n = Refused number card
+judgedAs clean n = Book n
+judgedAs (bad number card) n = Refused number card
 
 abbrev pub judgedLength : Judged → ℕ
 judgedLength (Book n) = n
@@ -152,7 +152,7 @@ recordLength size count = pick (eqb size 0) 0 (7 + count + size)
 -- the record of a card in bytes, if it makes one
 abbrev pub cardRecord : ℕ → ℕ → List Piece → List ℕ
 cardRecord card address [] = []
-cardRecord card address (p ∷ ps) = recordBytes (recordOf card address (p ∷ ps))
+cardRecord card address (p ∷ ps) = recordBytes (recordOfPieces card address (p ∷ ps))
 
 -- what is known of a text, and of what a card makes, where the sizes of DC are good
 abbrev pub TextFits : Text → List ℕ → Type 0
