@@ -16,9 +16,8 @@ use Rattle.book.specs.declared.Step.{Step}
 use Rattle.book.specs.declared.Step.the-variants.{End, Broken}
 use Rattle.book.specs.declared.Layout.{Layout}
 use Rattle.book.specs.declared.Layout.the-variants.{Whole}
-use Rattle.book.specs.Book.{Record, Book, recordsFrom, onto, headerOk, entryAt, withEntry, bookOf, fieldsFit, restAt, cardAt, countAt, sizeAt, nextAt, recordAt, recordOk}
-use Rattle.book.specs.Reading.{stepAt, placeAt, behind, recordOf, headerOf, layoutOf, layoutIn, recordsOr, recordsIn, Sound}
-use Rattle.book.proofs.Laws as laws
+use Rattle.book.specs.Book.{Record, Book, recordsFrom, onto, headerOk, entryAt, withEntry, bookOf, recordHead, countAt, recordAt, recordOk}
+use Rattle.book.specs.Reading.{stepAt, placeAt, behind, recordThere, headerOf, layoutOf, layoutIn, recordsOr, recordsIn, Sound}
 use Rattle.values.proofs.Laws.{held, part-length}
 use Rattle.book.proofs.Laws.{text-length, whole-is, fields-few}
 use Rattle.book.proofs.Header.{short-header}
@@ -58,7 +57,7 @@ module _ (s : List ℕ) (at last : ℕ) where
 -- what is known of a record that the reader gave
 pub record Gave (s : List ℕ) (at last : ℕ) (p : Place) (c : Cursor) : Type 0 where
   pub sound : Sound s p
-  pub is : recordAt s at ≡ recordOf s p
+  pub is : recordAt s at ≡ recordThere s p
   pub on : at < c .at
   pub within : c .at ≤ length s
   pub rise : last < p .card
@@ -70,7 +69,7 @@ gave s at last p c e =
     let w = whole-is s at last ok in
     let f = w .is in
     let l = text-length s at last (w .rest) (w .count) in
-    let n = part-length s (at + 7) (countAt s at) (omega (arith, w .rest, w .count)) in
+    let n = part-length s (at + recordHead) (countAt s at) (omega (arith, w .rest, w .count)) in
     let few : countAt s at ≤ 128 = let q = fields-few 0 (length (recordAt s at .text)) (recordAt s at .fields) (f .inside) (omega arith) in omega (arith, q, f .short) in
     rw (is-p, is-c)
     (record {
@@ -95,7 +94,7 @@ gave s at last p c e =
 
 module _ (s : List ℕ) (at last : ℕ) where
   pub turn-record : (f : ℕ) (p : Place) (c : Cursor) → Step.Record p c ≡ stepAt s at last
-      → recordsFrom (suc f) s at last ≡ onto (recordOf s p) (recordsFrom f s (c .at) (c .card))
+      → recordsFrom (suc f) s at last ≡ onto (recordThere s p) (recordsFrom f s (c .at) (c .card))
   unfolding recordsFrom
   turn-record f p c e =
       let (n, ok, is-p, is-c) = step-is-record s at last p c e in
@@ -155,7 +154,7 @@ module _ (s : List ℕ) (e : Entry) (at last : ℕ) (l : LayoutLeft s e at last)
         f - 1,
         omega arith,
         same ∙ ap (λ n. layoutIn (withEntry e (recordsFrom n s at last))) one ∙ ap (λ o. layoutIn (withEntry e o)) (turn-record s at last (f - 1) p c q)
-            ∙ layout-onto e (recordOf s p) (recordsFrom (f - 1) s (c .at) (c .card)),
+            ∙ layout-onto e (recordThere s p) (recordsFrom (f - 1) s (c .at) (c .card)),
       )
 
   pub layout-end : End ≡ stepAt s at last → Whole e ≡ layoutOf s
@@ -223,10 +222,10 @@ module _ (s : List ℕ) (e : Entry) (q : Whole e ≡ layoutOf s) where
 module _ (s : List ℕ) (at last : ℕ) (P : List Record → Type 0) (l : Left s at last P) where
   -- a record is there: it is the first of those left
   pub onward : (p : Place) (c : Cursor) (Q : List Record → Type 0) → Step.Record p c ≡ stepAt s at last
-      → ((rest : List Record) → P (recordOf s p ∷ rest) → Q rest) → Left s (c .at) (c .card) Q
+      → ((rest : List Record) → P (recordThere s p ∷ rest) → Q rest) → Left s (c .at) (c .card) Q
   onward p c Q q step = let (f, rs, is, holds) = l in go f rs is holds
     where
-      there : (f : ℕ) (rs : List Record) (o : Option (List Record)) → recordsFrom f s (c .at) (c .card) ≡ o → onto (recordOf s p) o ≡ some rs → P rs → Left s (c .at) (c .card) Q
+      there : (f : ℕ) (rs : List Record) (o : Option (List Record)) → recordsFrom f s (c .at) (c .card) ≡ o → onto (recordThere s p) o ≡ some rs → P rs → Left s (c .at) (c .card) Q
       there f rs none h k holds = let z : _≡_ {A = ℕ} 0 1 = cc in absurd (omega arith)
       there f rs (some rest) h k holds = (f, rest, h, step rest (subst P (cc) holds))
 
@@ -234,9 +233,9 @@ module _ (s : List ℕ) (at last : ℕ) (P : List Record → Type 0) (l : Left s
       go zero rs is holds = absurd (out-of-bound s at last rs is)
       go (suc f) rs is holds = there f rs (recordsFrom f s (c .at) (c .card)) refl (sym (turn-record s at last f p c q) ∙ is) holds
 
-  pub first : (p : Place) (c : Cursor) → Step.Record p c ≡ stepAt s at last → (rest : List Record) × P (recordOf s p ∷ rest)
+  pub first : (p : Place) (c : Cursor) → Step.Record p c ≡ stepAt s at last → (rest : List Record) × P (recordThere s p ∷ rest)
   first p c q =
-      let (f, rest, is, holds) = onward p c (λ rest. P (recordOf s p ∷ rest)) q (λ rest h. h) in
+      let (f, rest, is, holds) = onward p c (λ rest. P (recordThere s p ∷ rest)) q (λ rest h. h) in
       (rest, holds)
 
   pub ended : End ≡ stepAt s at last → P []

@@ -19,7 +19,7 @@ use Rattle.values.proofs.Laws.{both-true, sets-over, sets-sets}
 use Rattle.book.proofs.Places.{fields-length}
 use Rattle.book.specs.Book.{Record, fieldsFit}
 use Rattle.book.specs.declared.Place.{Place}
-use Rattle.book.specs.Reading.{recordOf, Sound}
+use Rattle.book.specs.Reading.{recordThere, Sound}
 use Rattle.fields.specs.Fields.{movedIn, overIn, movedText}
 
 -- each offset that fits has its two bytes inside the text
@@ -36,8 +36,8 @@ fits-each least size (o ∷ os) e (suc k) h =
     fits-each (o + 2) size os others k (omega arith)
 
 module _ (s : List ℕ) (p : Place) (ok : Sound s p) where
-  pub offset-inside : (i : ℕ) → i < p .count → getD (recordOf s p .fields) i 0 + 2 ≤ p .size
-  offset-inside i h = let n = fields-length s p ok in fits-each 0 (p .size) (recordOf s p .fields) (ok .inside) i (omega arith)
+  pub offset-inside : (i : ℕ) → i < p .count → getD (recordThere s p .fields) i 0 + 2 ≤ p .size
+  offset-inside i h = let n = fields-length s p ok in fits-each 0 (p .size) (recordThere s p .fields) (ok .inside) i (omega arith)
 
 -- A TURN
 

@@ -5,7 +5,7 @@ ghost use Prim.Native.Nat.{_+_, _*_, _≤_, _<_};
 ghost use lib.ListN.{length};
 ghost use lib.Seq.{sets};
 ghost use Rattle.values.specs.Words.{twoBytes};
-ghost use Rattle.book.specs.Reading.{recordOf, recordsIn, Sound, Kept};
+ghost use Rattle.book.specs.Reading.{recordThere, recordsIn, Sound, Kept};
 ghost use Rattle.print.specs.Print.{hexDigit, column, headerLine, offsets, headColumns, recordLine, recordLines, bookLines, printed, whereRoom, offsetsLength, lineLength};
 use book::Cursor;
 use book::Layout;
@@ -80,7 +80,7 @@ fn put_header(m: &mut [u8], book: &[u8]) -> usize
 fn put_offsets(m: &mut [u8], to: usize, book: &[u8], p: Place) -> usize
     requires { ⌜ Sound (now book) p ⌝ ∗ ⌜ to + offsetsLength (p .count) ≤ length (now m) ⌝ }
     ensures { λ r. ⌜ r ≡ to + offsetsLength (p .count) ⌝ }
-    ensures { λ _. ⌜ now (m .exit) ≡ sets (now (m .entry)) to (offsets (recordOf (now (book .entry)) p .fields)) ⌝ }
+    ensures { λ _. ⌜ now (m .exit) ≡ sets (now (m .entry)) to (offsets (recordThere (now (book .entry)) p .fields)) ⌝ }
 {
     let count = p.count;
     if count == 0 {
@@ -110,7 +110,7 @@ fn put_head(m: &mut [u8], to: usize, p: Place) -> usize
 fn put_text(m: &mut [u8], to: usize, book: &[u8], p: Place) -> usize
     requires { ⌜ Sound (now book) p ⌝ ∗ ⌜ to + (2 * p .size + 1) ≤ length (now m) ⌝ }
     ensures { λ r. ⌜ r ≡ to + (2 * p .size + 1) ⌝ }
-    ensures { λ _. ⌜ now (m .exit) ≡ sets (now (m .entry)) to (column (recordOf (now (book .entry)) p .text) 10) ⌝ }
+    ensures { λ _. ⌜ now (m .exit) ≡ sets (now (m .entry)) to (column (recordThere (now (book .entry)) p .text) 10) ⌝ }
 {
     let from = p.text;
     let end = from + p.size;
@@ -121,7 +121,7 @@ fn put_text(m: &mut [u8], to: usize, book: &[u8], p: Place) -> usize
 fn put_record(m: &mut [u8], to: usize, book: &[u8], p: Place) -> usize
     requires { ⌜ Sound (now book) p ⌝ ∗ ⌜ to + lineLength (p .count) (p .size) ≤ length (now m) ⌝ }
     ensures { λ r. ⌜ r ≡ to + lineLength (p .count) (p .size) ⌝ }
-    ensures { λ _. ⌜ now (m .exit) ≡ sets (now (m .entry)) to (recordLine (recordOf (now (book .entry)) p)) ⌝ }
+    ensures { λ _. ⌜ now (m .exit) ≡ sets (now (m .entry)) to (recordLine (recordThere (now (book .entry)) p)) ⌝ }
 {
     let offsets = put_head(m, to, p);
     let text = put_offsets(m, offsets, book, p);

@@ -5,7 +5,7 @@ use mathlib.Core.Path.{_≡_, refl, sym, ap, _∙_}
 use Prim.Native.Nat.{_+_, _-_}
 use lib.ListN.{length}
 use Rattle.book.specs.Book.{Record}
-use Rattle.book.specs.Reading.{stepAt, recordOf, recordsIn}
+use Rattle.book.specs.Reading.{stepAt, recordThere, recordsIn}
 use Rattle.book.specs.declared.Step.{Step}
 use Rattle.book.proofs.Turns.{Left, start, onward, ended, never, gave, first}
 use Rattle.book.proofs.Places.{text-length}
@@ -52,7 +52,7 @@ read c = sym (c .p .given .1) ∙ c .before .before .next .ensures
 is-outside-requires : tie.Need-is-outside-requires Inv-loop μ-loop
 is-outside-requires c κs = let g = gave _ _ _ _ _ (read (c .before)) .sound in (g .short, g .long, c .before .before .before .before .before .before .before .pre .1)
 
-same : (c : tie.After-is-outside Inv-loop μ-loop) → outside (c .before .before .before .before .before .before .before .before .args .d .0) (c .before .before .before .before .before .before .before .before .args .room) (recordOf (c .before .before .before .before .before .before .before .before .args .book .now) (c .before .before .p .given .0 .0)) ≡ c .is-outside .result
+same : (c : tie.After-is-outside Inv-loop μ-loop) → outside (c .before .before .before .before .before .before .before .before .args .d .0) (c .before .before .before .before .before .before .before .before .args .room) (recordThere (c .before .before .before .before .before .before .before .before .args .book .now) (c .before .before .p .given .0 .0)) ≡ c .is-outside .result
 same c =
     let a = c .before .before .before .before .before .before .before .before .args in let p = c .before .before .p .given .0 .0 in
     ap (λ n. ltb (a .room) (p .address .0 + a .d .0 + n)) (text-length (a .book .now) p (gave _ _ _ _ _ (read (c .before .before)) .sound)) ∙ sym (c .is-outside .ensures)
@@ -60,7 +60,7 @@ same c =
 returns-3 : tie.Need-returns-3 Inv-loop μ-loop
 returns-3 c =
     let a = c .before .before .before .before .before .before .before .before .before .args in let l = c .before .before .before .before .before .before .loop in let q = read (c .before .before .before) in let p = c .before .before .before .p .given .0 .0 in let (rest, holds) = first _ _ _ _ (l .inv) _ _ q in
-    sym (holds ∙ first-hit _ (recordOf (a .book .now) p) rest (same (c .before) ∙ c .if1 .taken))
+    sym (holds ∙ first-hit _ (recordThere (a .book .now) p) rest (same (c .before) ∙ c .if1 .taken))
 
 loop-less : tie.Need-loop-less Inv-loop μ-loop
 loop-less c = let g = gave _ _ _ _ _ (read (c .before .before .before)) in omega (arith, g .on, g .within)
@@ -68,7 +68,7 @@ loop-less c = let g = gave _ _ _ _ _ (read (c .before .before .before)) in omega
 loop-again : tie.Need-loop-again Inv-loop μ-loop
 loop-again c =
     let a = c .before .before .before .before .before .before .before .before .before .args in let l = c .before .before .before .before .before .before .loop in let q = read (c .before .before .before) in let p = c .before .before .before .p .given .0 .0 in
-    onward _ _ _ _ (l .inv) _ _ _ q (λ rest holds. holds ∙ first-miss _ (recordOf (a .book .now) p) rest (same (c .before) ∙ c .if1 .left))
+    onward _ _ _ _ (l .inv) _ _ _ q (λ rest holds. holds ∙ first-miss _ (recordThere (a .book .now) p) rest (same (c .before) ∙ c .if1 .left))
 
 pub first-outside-spec : {M : Type 1} → statement M
 first-outside-spec =

@@ -5,7 +5,7 @@ use mathlib.Core.Path.{_≡_, refl, sym, _∙_}
 use Prim.Native.Nat.{_-_}
 use lib.ListN.{length}
 use Rattle.book.specs.Book.{Record}
-use Rattle.book.specs.Reading.{stepAt, recordOf, recordsIn}
+use Rattle.book.specs.Reading.{stepAt, recordThere, recordsIn}
 use Rattle.book.specs.declared.Step.{Step}
 use Rattle.book.proofs.Turns.{Left, start, onward, ended, never, gave, first}
 use Rattle.fields.specs.Fields.{overField}
@@ -54,7 +54,7 @@ over-field-requires c κs = gave _ _ _ _ _ (read (c .before)) .sound
 returns-3 : tie.Need-returns-3 Inv-loop μ-loop
 returns-3 c =
     let a = c .before .before .before .before .before .before .before .before .before .args in let l = c .before .before .before .before .before .before .loop in let q = read (c .before .before .before) in let p = c .before .before .before .p .given .0 .0 in let (rest, holds) = first _ _ _ _ (l .inv) _ _ q in
-    sym (holds ∙ first-hit _ (recordOf (a .book .now) p) rest (sym (c .before .over-field .ensures) ∙ c .if1 .taken))
+    sym (holds ∙ first-hit _ (recordThere (a .book .now) p) rest (sym (c .before .over-field .ensures) ∙ c .if1 .taken))
 
 loop-less : tie.Need-loop-less Inv-loop μ-loop
 loop-less c = let g = gave _ _ _ _ _ (read (c .before .before .before)) in omega (arith, g .on, g .within)
@@ -62,7 +62,7 @@ loop-less c = let g = gave _ _ _ _ _ (read (c .before .before .before)) in omega
 loop-again : tie.Need-loop-again Inv-loop μ-loop
 loop-again c =
     let a = c .before .before .before .before .before .before .before .before .before .args in let l = c .before .before .before .before .before .before .loop in let q = read (c .before .before .before) in let p = c .before .before .before .p .given .0 .0 in
-    onward _ _ _ _ (l .inv) _ _ _ q (λ rest holds. holds ∙ first-miss _ (recordOf (a .book .now) p) rest (sym (c .before .over-field .ensures) ∙ c .if1 .left))
+    onward _ _ _ _ (l .inv) _ _ _ q (λ rest holds. holds ∙ first-miss _ (recordThere (a .book .now) p) rest (sym (c .before .over-field .ensures) ∙ c .if1 .left))
 
 pub first-over-spec : {M : Type 1} → statement M
 first-over-spec =

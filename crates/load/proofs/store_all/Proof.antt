@@ -5,7 +5,7 @@ use mathlib.Core.Path.{_≡_, refl, sym, ap, _∙_}
 use Prim.Native.Nat.{_+_, _-_, _*_, _≤_}
 use lib.ListN.{length}
 use Rattle.book.specs.Book.{Record}
-use Rattle.book.specs.Reading.{stepAt, recordOf, recordsIn}
+use Rattle.book.specs.Reading.{stepAt, recordThere, recordsIn}
 use Rattle.book.specs.declared.Step.{Step}
 use Rattle.book.proofs.Turns.{Left, start, onward, ended, never, gave, first}
 use Rattle.fields.specs.Fields.{overField, movedText}
@@ -72,15 +72,15 @@ read : (c : tie.After-p Inv-loop μ-loop) → Step.Record (c .p .given .0 .0) (c
 read c = sym (c .p .given .1) ∙ c .before .before .next .ensures
 
 -- its text, moved, lies in storage, and none of its fields is over
-fits : (c : tie.After-p Inv-loop μ-loop) → (c .p .given .0 .0 .address .0 + c .before .before .before .before .before .before .before .args .d .0 + c .p .given .0 .0 .size ≤ roomIn (c .before .before .before .before .before .before .before .args .m .now)) × (overField (c .before .before .before .before .before .before .before .args .d .0) (recordOf (c .before .before .before .before .before .before .before .args .book .now) (c .p .given .0 .0)) ≡ false)
+fits : (c : tie.After-p Inv-loop μ-loop) → (c .p .given .0 .0 .address .0 + c .before .before .before .before .before .before .before .args .d .0 + c .p .given .0 .0 .size ≤ roomIn (c .before .before .before .before .before .before .before .args .m .now)) × (overField (c .before .before .before .before .before .before .before .args .d .0) (recordThere (c .before .before .before .before .before .before .before .args .book .now) (c .p .given .0 .0)) ≡ false)
 fits c =
     let a = c .before .before .before .before .before .before .before .args in let p = c .p .given .0 .0 in let l = c .before .before .before .loop in
     let (rest, still) = first _ _ _ _ (l .inv .3) _ _ (read c) in
     let g = gave _ _ _ _ _ (read c) .sound in
     let n = text-length (a .book .now) p g in
-    let inside = none-fails (outside (a .d .0) (roomIn (a .m .now))) (recordOf (a .book .now) p) rest (g .card .0) (still .inside) .0 in
-    let low = ltb-false (roomIn (a .m .now)) (p .address .0 + a .d .0 + length (recordOf (a .book .now) p .text)) inside in
-    (omega arith, none-fails (overField (a .d .0)) (recordOf (a .book .now) p) rest (g .card .0) (still .under) .0)
+    let inside = none-fails (outside (a .d .0) (roomIn (a .m .now))) (recordThere (a .book .now) p) rest (g .card .0) (still .inside) .0 in
+    let low = ltb-false (roomIn (a .m .now)) (p .address .0 + a .d .0 + length (recordThere (a .book .now) p .text)) inside in
+    (omega arith, none-fails (overField (a .d .0)) (recordThere (a .book .now) p) rest (g .card .0) (still .under) .0)
 
 enum-told-3 : tie.Need-enum-told-3 Inv-loop μ-loop
 enum-told-3 c = search needs
@@ -122,8 +122,8 @@ loop-again c =
     let q = read (c .before .before .before .before .before .before .before .before .before .before .before) in
     let g = gave _ _ _ _ _ q in
     let n = text-length (a .book .now) p (g .sound) in
-    let is : c .before .before .before .put-moved .last .1 .1 .1 .0 ≡ stored (a .d .0) (recordOf (a .book .now) p) (l .m) =
-    w .ensures ∙ ap (λ to. sets (l .m) to (movedText (a .d .0) (recordOf (a .book .now) p))) (place-is (c .before .before .before .before)) ∙ sym (stored-is (a .d .0) (recordOf (a .book .now) p) (l .m)) in
+    let is : c .before .before .before .put-moved .last .1 .1 .1 .0 ≡ stored (a .d .0) (recordThere (a .book .now) p) (l .m) =
+    w .ensures ∙ ap (λ to. sets (l .m) to (movedText (a .d .0) (recordThere (a .book .now) p))) (place-is (c .before .before .before .before)) ∙ sym (stored-is (a .d .0) (recordThere (a .book .now) p) (l .m)) in
     let few = l .inv .1 in
     let (low, high) = g .sound .card in
     let short = g .sound .short in
@@ -132,7 +132,7 @@ loop-again c =
       w .kept .1 .1 .1 .0 ∙ l .inv .0,
       omega arith,
       omega arith,
-      onward _ _ _ _ (l .inv .3) _ _ _ q (λ rest still. still-first (a .d .0) _ _ _ (l .m) _ (l .count) (p .size) (recordOf (a .book .now) p) rest still low n is),
+      onward _ _ _ _ (l .inv .3) _ _ _ q (λ rest still. still-first (a .d .0) _ _ _ (l .m) _ (l .count) (p .size) (recordThere (a .book .now) p) rest still low n is),
     )
 
 pub store-all-spec : {M : Type 1} → statement M

@@ -3,7 +3,7 @@ use borrow.Author.Needs.{needs}
 use native.Mathlib.Omega.{arith}
 use mathlib.Core.Path.{_≡_, sym, ap, _∙_}
 use Rattle.book.specs.Book.{Record}
-use Rattle.book.specs.Reading.{stepAt, recordOf, recordsIn}
+use Rattle.book.specs.Reading.{stepAt, recordThere, recordsIn}
 use Rattle.book.specs.declared.Step.{Step}
 use Rattle.book.proofs.Turns.{Left, start, onward, first, ended, never, gave}
 use Rattle.print.specs.Print.{recordLine, recordLines}
@@ -63,10 +63,10 @@ loop-again c =
     let g = gave _ _ _ _ _ q in
     let rise = g .rise in let same = g .same in let (low, high) = g .sound .card in let few = l .inv .0 in
     let (is, most) = c .line-length .ensures in
-    let n = line-length (recordOf (a .book .now) p) (p .count) (p .size) (fields-length (a .book .now) p (g .sound)) (text-length (a .book .now) p (g .sound)) in (
+    let n = line-length (recordThere (a .book .now) p) (p .count) (p .size) (fields-length (a .book .now) p (g .sound)) (text-length (a .book .now) p (g .sound)) in (
       omega arith,
       omega arith,
-      onward _ _ _ _ (l .inv .2) _ _ _ q (λ rest e. let f = ap length (lines-first (recordOf (a .book .now) p) rest) in let k = length-append (recordLine (recordOf (a .book .now) p)) (recordLines rest) in omega arith),
+      onward _ _ _ _ (l .inv .2) _ _ _ q (λ rest e. let f = ap length (lines-first (recordThere (a .book .now) p) rest) in let k = length-append (recordLine (recordThere (a .book .now) p)) (recordLines rest) in omega arith),
     )
 
 pub lines-length-spec : {M : Type 1} → statement M
