@@ -13,6 +13,7 @@ use Rattle.values.specs.declared.Value.{Value}
 use Rattle.values.proofs.Laws.{both-true}
 use Rattle.names.specs.declared.Entry.{Entry}
 use Rattle.book.specs.declared.Entry.{Entry as BookEntry}
+use Rattle.statements.specs.declared.Statement.{Statement as Stated}
 use Rattle.expressions.specs.declared.Evaluated.{Evaluated}
 use Rattle.expressions.specs.Value.{valueIn}
 use Rattle.operations.specs.declared.Operation.{Operation}
@@ -32,7 +33,6 @@ use Rattle.statements.specs.declared.places.Operand.{Operand}
 use Rattle.statements.specs.declared.places.Operand.the-variants.{Direct, Indexed}
 use Rattle.statements.specs.declared.places.Use.{Use}
 use Rattle.statements.specs.declared.places.Use.the-variants.{Jumps, Registers, Nothing as NoUse}
-use Rattle.statements.specs.declared.Statement.{Statement as Stated}
 use Rattle.statements.specs.Operands.{constantBy, operandsOf}
 use Rattle.statements.specs.Codes.{codeByte}
 use Rattle.statements.specs.Places.{useOf, jumpCode}
@@ -51,9 +51,9 @@ use Rattle.passes.specs.declared.Course.{Course}
 use Rattle.passes.specs.Cards.{roleOf, operandsAt, counterAfter}
 use Rattle.passes.specs.One.{dataNo}
 use Rattle.passes.specs.Sound.{soundLine, soundReading}
-use Rattle.passes.specs.Two.{constantPieces, shapePieces, linePieces, readingPieces, cardPieces, readingTwoStep, stepTwo, roleEntry, readingEntry, entryFrom}
+use Rattle.passes.specs.Two.{readingTwoNo, twoNo, constantPieces, shapePieces, linePieces, readingPieces, cardPieces, readingTwoStep, stepTwo, roleEntry, readingEntry, entryFrom}
 use Rattle.passes.proofs.Counter.{counter-most}
-use Rattle.two.specs.Steps.{textBy, textFrom, textPieces, entryOr, soughtBy, readingMade, cardMade, TextFits, MadeFits}
+use Rattle.making.specs.Steps.{textBy, textFrom, textPieces, entryOr, soughtBy, readingMade, cardMade, TextFits, MadeFits}
 
 -- WHAT IT IS
 
@@ -85,6 +85,15 @@ module _ (look : ℕ → Entry) (c : Course) (s : List ℕ) where
       go Comment = refl
       go BadName = refl
       go (Statement l) = pieces-from (l .shape) (operandIn s l) (statementFrom (l .operation) (operandsAt look (c .counter) s l) (c .counter) (c .bases))
+
+  pub made-number : cardMade look c s .number ≡ twoNo look c s
+  unfolding cardMade twoNo
+  made-number = go (readingOf s)
+    where
+      go : (x : Reading) → readingMade look c s x .number ≡ readingTwoNo look c s x
+      go Comment = refl
+      go BadName = refl
+      go (Statement l) = refl
 
   pub made-course : cardMade look c s .course ≡ stepTwo look c s
   unfolding cardMade stepTwo counterAfter

@@ -1,32 +1,30 @@
--- Records and the book in bytes: how long they are, and one laid after another.
-use Prim.Native.Nat.{ℕ, suc, _+_, _-_, _*_, _/_, _%_, _≤_, _<_}
+-- The record of what a card makes in bytes: how long it is, and those of the cards behind it.
+use Prim.Native.Nat.{ℕ, _+_, _-_, _*_, _/_, _%_, _≤_}
 use mathlib.Core.List.{List, [], _∷_, _++_}
 use mathlib.Core.Path.{_≡_, refl, sym, ap, _∙_}
 use native.Mathlib.Omega.{arith}
-use lib.ListN.{length, set, length-append}
-use lib.Seq.{sets, set-comm}
+use lib.ListN.{length}
 use borrow.Author.Tests.{eq-eqb, ne-eqb}
-use Rattle.values.specs.Words.{twoBytes, fourBytes, part}
-use Rattle.values.proofs.Laws.{sets-append}
+use Rattle.values.specs.Words.{part}
 use Rattle.names.specs.declared.Entry.{Entry}
-use Rattle.book.specs.declared.Entry.{Entry as BookEntry}
-use Rattle.book.specs.declared.Entry.the-variants.{Absent, At}
-use Rattle.book.specs.Book.{Record}
-use Rattle.book.specs.Writing.{restBytes, recordBytes, recordsBytes, entryBytes, bookBytes}
+use Rattle.statements.specs.declared.Statement.{Statement as Stated}
+use Rattle.book.specs.Book.{Record, restHead}
+use Rattle.book.specs.Writing.{headBytes, recordBytes, recordLength, recordsBytes}
+use Rattle.book.proofs.Written.{record-length}
 use Rattle.data.specs.Text.{constantText}
 use Rattle.data.proofs.Fine.{constant-fine}
 use Rattle.data.proofs.Texts.{text-length}
 use Rattle.encode.specs.Pieces.{Piece, textOf, fieldsOf, piecesOf}
 use Rattle.encode.proofs.Laws.{plain-text, plain-fields, text-none, fields-half}
 use Rattle.passes.specs.declared.Course.{Course}
-use Rattle.passes.specs.Two.{outset, stepTwo, cardPieces, recordOfPieces, withRecord, cardRecords, entryFrom, bookFrom}
-use Rattle.two.specs.declared.making.Text.{Text}
-use Rattle.two.specs.declared.making.Made.{Made}
-use Rattle.two.specs.Steps.{textPieces, cardMade, textLength, textFields, recordLength, cardRecord, TextFits, MadeFits}
-use Rattle.two.proofs.Cards.{made-pieces}
+use Rattle.passes.specs.Two.{stepTwo, cardPieces, recordOfPieces, withRecord, cardRecords}
+use Rattle.making.specs.declared.Text.{Text}
+use Rattle.making.specs.declared.Made.{Made}
+use Rattle.making.specs.Steps.{textPieces, cardMade, textLength, textFields, madeLength, cardRecord, madeRecord, TextFits, MadeFits}
+use Rattle.making.proofs.Cards.{made-pieces}
 
 -- the pieces of a card are those of the text that it makes
-pub made-are : (look : ℕ → Entry) (c : Course) (s : List ℕ) (x : Made) → x ≡ cardMade look c s → cardPieces look c s ≡ textPieces (x .text) (part s (x .from) (x .end - x .from))
+made-are : (look : ℕ → Entry) (c : Course) (s : List ℕ) (x : Made) → x ≡ cardMade look c s → cardPieces look c s ≡ textPieces (x .text) (part s (x .from) (x .end - x .from))
 made-are look c s x e = made-pieces look c s ∙ ap (λ (y : Made). textPieces (y .text) (part s (y .from) (y .end - y .from))) (sym e)
 
 -- TEXTS
@@ -62,23 +60,19 @@ module _ (t : Text) (o : List ℕ) where
 
 -- the length of the rest, card, address and count; then the fields; then the text
 pub record-is : (card address : ℕ) (ps : List Piece) (size count : ℕ) → length (textOf ps) ≡ size → length (fieldsOf ps) ≡ count
-    → recordBytes (recordOfPieces card address ps) ≡ (twoBytes (5 + count + size) ++ (twoBytes card ++ (twoBytes (address % 65536) ++ (count ∷ [])))) ++ (fieldsOf ps ++ textOf ps)
-unfolding recordBytes restBytes
+    → recordBytes (recordOfPieces card address ps) ≡ headBytes (restHead + count + size) card (address % 65536) count ++ (fieldsOf ps ++ textOf ps)
+unfolding recordBytes
 record-is card address ps size count a b =
     let high : address % 65536 / 256 % 256 ≡ address / 256 % 256 = omega arith in
     let low : address % 65536 % 256 ≡ address % 256 = omega arith in
     rw (a, b, high, low)
-
-record-long : (r : Record) → length (recordBytes r) ≡ 7 + length (r .fields) + length (r .text)
-unfolding recordBytes restBytes
-record-long r = simp length-append (omega arith)
 
 pub record-size : (card address : ℕ) (ps : List Piece) (size count : ℕ) → length (textOf ps) ≡ size → length (fieldsOf ps) ≡ count
     → length (cardRecord card address ps) ≡ recordLength size count
 unfolding textOf
 record-size card address [] size count a b = rw (eq-eqb size 0 (sym a))
 record-size card address (p ∷ ps) size count a b =
-    let l = record-long (recordOfPieces card address (p ∷ ps)) in
+    let l = record-length (recordOfPieces card address (p ∷ ps)) in
     rw (ne-eqb size 0 (λ z. let none = text-none (p ∷ ps) (a ∙ z) in let w : _≡_ {A = ℕ} 0 1 = cc in omega arith)) (l ∙ omega arith)
 
 -- a text without a byte has no record, one with a byte has
@@ -91,8 +85,11 @@ record-some card address [] h = absurd (h refl)
 record-some card address (p ∷ ps) h = refl
 
 -- the record of what a card makes
+pub made-bytes : (look : ℕ → Entry) (c : Course) (s : List ℕ) (x : Made) → x ≡ cardMade look c s → (k : ℕ) → cardRecord k (c .counter) (cardPieces look c s) ≡ madeRecord k (c .counter) x s
+made-bytes look c s x e k = ap (cardRecord k (c .counter)) (made-are look c s x e)
+
 pub made-size : (look : ℕ → Entry) (c : Course) (s : List ℕ) (x : Made) → x ≡ cardMade look c s → MadeFits x s → (k : ℕ)
-    → length (cardRecord k (c .counter) (cardPieces look c s)) ≡ recordLength (textLength (x .text)) (length (textFields (x .text)))
+    → length (cardRecord k (c .counter) (cardPieces look c s)) ≡ madeLength x
 made-size look c s x e f k =
     let o = part s (x .from) (x .end - x .from) in
     let is = made-are look c s x e in
@@ -112,48 +109,3 @@ records-more look k c s ss = go (cardPieces look c s) (cardRecords look (k + 1) 
 pub records-none : (look : ℕ → Entry) (k : ℕ) (c : Course) → recordsBytes (cardRecords look k c []) ≡ []
 unfolding cardRecords recordsBytes
 records-none look k c = refl
-
--- THE BOOK
-
--- stores apart from each other in either order
-set-apart : (vs m : List ℕ) (i j u : ℕ) → i < j → set (sets m j vs) i u ≡ sets (set m i u) j vs
-set-apart [] m i j u h = refl
-set-apart (v ∷ vs) m i j u h = set-apart vs (set m j v) i (suc j) u (omega arith) ∙ ap (λ l. sets l (suc j) vs) (set-comm m j i v u (λ e. omega arith))
-
-sets-apart : (us vs m : List ℕ) (i j : ℕ) → i + length us ≤ j → sets (sets m j vs) i us ≡ sets (sets m i us) j vs
-sets-apart [] vs m i j h = refl
-sets-apart (u ∷ us) vs m i j h = ap (λ l. sets l (suc i) us) (set-apart vs m i j u (omega arith)) ∙ sets-apart us vs (set m i u) (suc i) j (omega arith)
-
-header-length : (n : ℕ) (e : BookEntry) → length (fourBytes n ++ (1 ∷ entryBytes e)) ≡ 8
-header-length n Absent = refl
-header-length n (At a) = refl
-
--- the length of the rest, version and entry; then the records
-book-is : (look : ℕ → Entry) (ss : List (List ℕ)) → let rs = recordsBytes (cardRecords look 1 outset ss) in
-    bookBytes (bookFrom look ss) ≡ (fourBytes (4 + length rs) ++ (1 ∷ entryBytes (entryFrom look outset ss))) ++ rs
-unfolding bookBytes bookFrom
-book-is look ss = go (entryFrom look outset ss) (recordsBytes (cardRecords look 1 outset ss))
-  where
-    go : (e : BookEntry) (rs : List ℕ) → fourBytes (4 + length rs) ++ (1 ∷ (entryBytes e ++ rs)) ≡ (fourBytes (4 + length rs) ++ (1 ∷ entryBytes e)) ++ rs
-    go Absent rs = refl
-    go (At a) rs = refl
-
-pub book-long : (look : ℕ → Entry) (ss : List (List ℕ)) → length (bookBytes (bookFrom look ss)) ≡ 8 + length (recordsBytes (cardRecords look 1 outset ss))
-book-long look ss =
-    let rs = recordsBytes (cardRecords look 1 outset ss) in
-    ap length (book-is look ss) ∙ length-append (fourBytes (4 + length rs) ++ (1 ∷ entryBytes (entryFrom look outset ss))) rs
-    ∙ rw (header-length (4 + length rs) (entryFrom look outset ss))
-
--- a header laid before records that are there
-pub book-laid : (look : ℕ → Entry) (ss : List (List ℕ)) (m p q : List ℕ) (size : ℕ) (e : BookEntry) → let rs = recordsBytes (cardRecords look 1 outset ss) in
-    p ≡ sets m 8 rs → size ≡ 8 + length rs → e ≡ entryFrom look outset ss → q ≡ sets p 0 (fourBytes (size - 4) ++ (1 ∷ entryBytes e))
-    → q ≡ sets m 0 (bookBytes (bookFrom look ss))
-book-laid look ss m p q size e a b c d =
-    let rs = recordsBytes (cardRecords look 1 outset ss) in
-    let h = fourBytes (4 + length rs) ++ (1 ∷ entryBytes (entryFrom look outset ss)) in
-    let n : size - 4 ≡ 4 + length rs = omega arith in
-    let l = header-length (4 + length rs) (entryFrom look outset ss) in
-    let k : 8 ≡ 0 + length h = omega arith in
-    d ∙ ap (λ x. sets x 0 (fourBytes (size - 4) ++ (1 ∷ entryBytes e))) a ∙ ap (λ i. sets (sets m 8 rs) 0 (fourBytes i ++ (1 ∷ entryBytes e))) n
-    ∙ ap (λ x. sets (sets m 8 rs) 0 (fourBytes (4 + length rs) ++ (1 ∷ entryBytes x))) c ∙ sets-apart h rs m 0 8 (omega arith) ∙ ap (λ i. sets (sets m 0 h) i rs) k
-    ∙ sym (sets-append m 0 h rs) ∙ ap (sets m 0) (sym (book-is look ss))

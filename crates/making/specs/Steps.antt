@@ -1,15 +1,15 @@
--- What the code's own types stand for, and what its parts work out.
+-- What a card makes, by the code's own types: its refusal, its text, its entry, its record in bytes.
 use Prim.Native.Nat.{ℕ, _+_, _-_, _≤_}
 use mathlib.Core.List.{List, [], _∷_, map}
 use mathlib.Core.Path.{_≡_}
+use mathlib.Core.Bool.{Bool, true, false}
 use lib.ListN.{length}
-use lib.Dec.{eqb}
-use Rattle.values.specs.Tests.{pick}
 use Rattle.values.specs.Words.{part}
 use Rattle.values.specs.declared.Value.{Value}
 use Rattle.names.specs.declared.Entry.{Entry}
 use Rattle.book.specs.declared.Entry.{Entry as BookEntry}
-use Rattle.book.specs.Writing.{recordBytes}
+use Rattle.statements.specs.declared.Statement.{Statement as Stated}
+use Rattle.book.specs.Writing.{recordBytes, recordLength}
 use Rattle.data.specs.declared.DataType.{DataType}
 use Rattle.data.specs.declared.DataType.the-variants.{Characters, Hexadecimal, Decimal, Address}
 use Rattle.data.specs.declared.Data.{Data}
@@ -18,8 +18,7 @@ use Rattle.data.specs.Text.{constantText}
 use Rattle.forms.specs.declared.Shape.{Shape}
 use Rattle.forms.specs.declared.Shape.the-variants.{Fails, Nothing, StartAt, Expression, Pair, Target, Two, One, Only, Constant, Reserve}
 use Rattle.statements.specs.declared.operands.Operands.{Operands}
-use Rattle.statements.specs.declared.Statement.{Statement as Stated}
-use Rattle.statements.specs.Statements.{statementFrom, basesAfter, loneValue}
+use Rattle.statements.specs.Statements.{numberOf, statementFrom, basesAfter, loneValue}
 use Rattle.encode.specs.Pieces.{Piece, textOf, fieldsOf, piecesOf}
 use Rattle.encode.specs.Pieces.Piece.{plain}
 use Rattle.lines.specs.declared.Line.{Line}
@@ -29,24 +28,19 @@ use Rattle.lines.specs.Lines.{readingOf}
 use Rattle.passes.specs.declared.Role.{Role}
 use Rattle.passes.specs.declared.Role.the-variants.{Starts, Equates, SetsCounter, Ends, Advances}
 use Rattle.passes.specs.declared.Course.{Course}
-use Rattle.passes.specs.Two.{Checked}
-use Rattle.passes.specs.Two.Checked.{clean, bad}
 use Rattle.passes.specs.Cards.{roleOf, operandsAt, counterBy}
-use Rattle.passes.specs.Two.{readingTwoNo, twoNo, recordOfPieces, entryBy}
-use Rattle.two.specs.declared.Judged.{Judged}
-use Rattle.two.specs.declared.Judged.the-variants.{Book, Refused}
-use Rattle.two.specs.declared.Turn.{Turn}
-use Rattle.two.specs.declared.making.Text.{Text}
-use Rattle.two.specs.declared.making.Sought.{Sought}
-use Rattle.two.specs.declared.making.Sought.the-variants.{Open, Found}
-use Rattle.two.specs.declared.making.Made.{Made}
+use Rattle.passes.specs.Two.{recordOfPieces, entryBy}
+use Rattle.making.specs.declared.Text.{Text}
+use Rattle.making.specs.declared.Sought.{Sought}
+use Rattle.making.specs.declared.Sought.the-variants.{Open, Found}
+use Rattle.making.specs.declared.Made.{Made}
 
 -- WHAT A CARD MAKES
 
--- behind a line whose expressions came to x
-abbrev pub courseBy : Course → Line → Operands → Course
-courseBy c l x = record {
-  counter = counterBy (roleOf (l .operation)) x (c .counter) l;
+-- behind a line whose expressions came to x, and its only expression to v
+abbrev pub courseBy : Course → Line → Operands → Value → Course
+courseBy c l x v = record {
+  counter = counterBy (roleOf (l .operation)) v (c .counter) l;
   bases = basesAfter (l .operation) x (c .bases);
 }
 
@@ -91,17 +85,18 @@ abbrev pub firstOf : Sought → Sought → Sought
 firstOf Open b = b
 firstOf (Found e) b = Found e
 
--- a card without a statement makes nothing
+-- a card without a statement is not refused, and makes nothing
 abbrev pub madeNone : Course → Made
-madeNone c = record { text = Text.Stated Stated.None; from = 0; end = 0; entry = Open; course = c }
+madeNone c = record { number = 0; text = Text.Stated Stated.None; from = 0; end = 0; entry = Open; course = c }
 
 abbrev pub madeBy : Course → Line → Operands → Made
 madeBy c l x = record {
+  number = numberOf (l .operation) x (c .counter) (c .bases);
   text = textFrom (l .shape) (statementFrom (l .operation) x (c .counter) (c .bases));
   from = l .operand;
   end = l .end;
   entry = soughtBy (roleOf (l .operation)) (loneValue x);
-  course = courseBy c l x;
+  course = courseBy c l x (loneValue x);
 }
 
 abbrev pub readingMade : (ℕ → Entry) → Course → List ℕ → Reading → Made
@@ -122,37 +117,25 @@ abbrev pub textFields : Text → List ℕ
 textFields (Text.Columns d) = []
 textFields (Text.Stated st) = fieldsOf (piecesOf st)
 
--- JUDGING
-
--- what is found on a card that has a number of refusal and makes x
-abbrev pub turnBy : ℕ → Made → Turn
-turnBy number x = record { number = number; size = textLength (x .text); fields = length (textFields (x .text)); course = x .course }
-
-abbrev pub readingTurn : (ℕ → Entry) → Course → List ℕ → Reading → Turn
-readingTurn look c s x = turnBy (readingTwoNo look c s x) (readingMade look c s x)
-
-abbrev pub cardTurn : (ℕ → Entry) → Course → List ℕ → Turn
-cardTurn look c s = turnBy (twoNo look c s) (cardMade look c s)
-
--- the length of the book counts where no card is refused
-abbrev pub judgedAs : Checked → ℕ → Judged
-judgedAs clean n = Book n
-judgedAs (bad number card) n = Refused number card
-
-abbrev pub judgedLength : Judged → ℕ
-judgedLength (Book n) = n
-judgedLength (Refused number card) = 0
-
 -- RECORDS
 
--- the bytes of a record with so many bytes of text and so many fields: none without text
-abbrev pub recordLength : ℕ → ℕ → ℕ
-recordLength size count = pick (eqb size 0) 0 (7 + count + size)
+-- how many bytes the record of what a card makes has
+abbrev pub madeLength : Made → ℕ
+madeLength x = recordLength (textLength (x .text)) (length (textFields (x .text)))
 
 -- the record of a card in bytes, if it makes one
 abbrev pub cardRecord : ℕ → ℕ → List Piece → List ℕ
 cardRecord card address [] = []
 cardRecord card address (p ∷ ps) = recordBytes (recordOfPieces card address (p ∷ ps))
+
+-- the record of a card with columns s that makes x
+abbrev pub madeRecord : ℕ → ℕ → Made → List ℕ → List ℕ
+madeRecord card address x s = cardRecord card address (textPieces (x .text) (part s (x .from) (x .end - x .from)))
+
+-- the bytes that are laid: none where the pass does not write
+abbrev pub laidIf : Bool → List ℕ → List ℕ
+laidIf true bytes = bytes
+laidIf false bytes = []
 
 -- what is known of a text, and of what a card makes, where the sizes of DC are good
 abbrev pub TextFits : Text → List ℕ → Type 0

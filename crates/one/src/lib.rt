@@ -160,7 +160,7 @@ fn line_step(p: Pass, card: &[u8], l: Line, table: &mut [u8]) -> Pass
     let here = p.counter;
     let role = role_of(operation);
     let x = early_operands(role, l, card, table, p.count, here);
-    let counter = counter_by(role, x, here, l);
+    let counter = counter_by(role, statements::lone_value(x), here, l);
     let next = phase_after(role, phase);
     let count = enter(role, x, here, l, table, p.count);
     Pass {

@@ -3,9 +3,9 @@ use Prim.Native.Nat.{ℕ}
 use mathlib.Core.Path.{_≡_, refl, sym, ap, _∙_}
 use Rattle.passes.specs.Two.{Checked}
 use Rattle.passes.specs.Two.Checked.{clean, bad}
-use Rattle.two.specs.declared.Judged.{Judged}
-use Rattle.two.specs.declared.Judged.the-variants.{Book, Refused}
-use Rattle.two.specs.Steps.{judgedAs, judgedLength}
+use Rattle.pass_two.specs.declared.Judged.{Judged}
+use Rattle.pass_two.specs.declared.Judged.the-variants.{Book, Refused}
+use Rattle.pass_two.specs.Code.{judgedAs, judgedLength}
 
 abbrev checked : Judged → Checked
 checked (Book n) = clean

@@ -1,5 +1,3 @@
--- The laws of pass two's code.
-pub mod Cards
-pub mod Writing
+-- The laws of pass two's loop.
 pub mod Loops
 pub mod Judging

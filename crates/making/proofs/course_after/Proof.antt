@@ -1,19 +1,28 @@
--- `making::course_after` meets its contract, field by field.
+-- `course_after` meets its contract, field by field.
 use borrow.Author.Needs.{needs}
-use Rattle.two.proofs.making.course_after.Statement.{statement}
-use Rattle.two.proofs.making.course_after.Tie as tie
+use Rattle.making.proofs.course_after.Statement.{statement}
+use Rattle.making.proofs.course_after.Tie as tie
+use Rattle.making.proofs.course_after.Reads as reads
+use Rattle.making.proofs.course_after.Lts as lts
+use Rattle.passes.proofs.counter_by.Reads as counter-by-reads
+use Rattle.passes.proofs.role_of.Reads as role-of-reads
+use Rattle.statements.proofs.bases_after.Reads as bases-after-reads
 
+-- src/lib.rt:66:30
 role-of-requires : tie.Need-role-of-requires
 role-of-requires c κs = search needs
 
+-- src/lib.rt:66:9
 counter-by-requires : tie.Need-counter-by-requires
 counter-by-requires c κs = search needs
 
+-- src/lib.rt:67:9
 bases-after-requires : tie.Need-bases-after-requires
 bases-after-requires c κs = search needs
 
+-- src/lib.rt:60:1
 returns : tie.Need-returns
-returns c = rw (c .bases-after .ensures, c .before .counter-by .ensures, c .before .before .role-of .ensures)
+returns c = cc
 
 pub course-after-spec : {M : Type 1} → statement M
 course-after-spec =

@@ -1,7 +1,7 @@
--- `making::entry_by` meets its contract, case by case.
+-- `entry_by` meets its contract, case by case.
 use borrow.Author.Needs.{needs}
-use Rattle.two.proofs.making.entry_by.Statement.{statement}
-use Rattle.two.proofs.making.entry_by.Tie as tie
+use Rattle.making.proofs.entry_by.Statement.{statement}
+use Rattle.making.proofs.entry_by.Tie as tie
 
 enum-told : tie.Need-enum-told
 enum-told c = search needs

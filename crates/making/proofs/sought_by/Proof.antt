@@ -1,53 +1,43 @@
--- `making::sought_by` meets its contract, case by case.
+-- `sought_by` meets its contract: only END says an entry.
+use mathlib.Core.List.{_∷_, []}
+use mathlib.Core.Path.{_≡_, refl}
+use types.Run.{OneOf, miss}
+use denote.Enum.Declared.{tagOf}
+use Rattle.values.specs.declared.Value.{Value}
+use Rattle.passes.specs.declared.Role.{Role}
+use Rattle.passes.specs.declared.Role.the-variants.{Starts, Equates, SetsCounter, Ends, Advances}
+use Rattle.passes.proofs.Role.{the-type}
+use Rattle.making.specs.declared.Sought.the-variants.{Open}
+use Rattle.making.specs.Steps.{soughtBy}
 use borrow.Author.Needs.{needs}
-use Rattle.two.proofs.making.sought_by.Statement.{statement}
-use Rattle.two.proofs.making.sought_by.Tie as tie
+use Rattle.making.proofs.sought_by.Statement.{statement}
+use Rattle.making.proofs.sought_by.Tie as tie
+use Rattle.making.proofs.sought_by.Reads as reads
+use Rattle.making.proofs.sought_by.Lts as lts
+use Rattle.making.proofs.entry_by.Reads as entry-by-reads
 
+-- src/lib.rt:109:37
 enum-told : tie.Need-enum-told
 enum-told c = search needs
 
-enum-told-2 : tie.Need-enum-told-2
-enum-told-2 c = search needs
-
-enum-told-3 : tie.Need-enum-told-3
-enum-told-3 c = search needs
-
-enum-told-4 : tie.Need-enum-told-4
-enum-told-4 c = search needs
-
+-- src/lib.rt:109:37
 entry-by-requires : tie.Need-entry-by-requires
 entry-by-requires c κs = search needs
 
-enum-told-5 : tie.Need-enum-told-5
-enum-told-5 c = search needs
-
+-- src/lib.rt:105:1
 returns : tie.Need-returns
-returns c = search needs
+returns c = rw (c .before .enum-told .given .1, c .entry-by .ensures)
 
+others : (r : Role) (v : Value) → OneOf (0 ∷ 1 ∷ 2 ∷ 4 ∷ []) (tagOf the-type r) → Open ≡ soughtBy r v
+others Starts v k = refl
+others Equates v k = refl
+others SetsCounter v k = refl
+others Ends v k = absurd (miss (0 ∷ 1 ∷ 2 ∷ 4 ∷ []) 3 tt k)
+others Advances v k = refl
+
+-- src/lib.rt:105:1
 returns-2 : tie.Need-returns-2
-returns-2 c = search needs
-
-returns-3 : tie.Need-returns-3
-returns-3 c = search needs
-
-returns-4 : tie.Need-returns-4
-returns-4 c = rw (c .before .enum-told4 .given .1, c .entry-by .ensures)
-
-returns-5 : tie.Need-returns-5
-returns-5 c = search needs
+returns-2 c = others (c .before .args .role) (c .before .args .v) (c .match .keys2)
 
 pub sought-by-spec : {M : Type 1} → statement M
-sought-by-spec =
-    tie.close
-    (tie.spec
-    enum-told
-    enum-told-2
-    enum-told-3
-    enum-told-4
-    entry-by-requires
-    enum-told-5
-    returns
-    returns-2
-    returns-3
-    returns-4
-    returns-5)
+sought-by-spec = tie.close (tie.spec enum-told entry-by-requires returns returns-2)

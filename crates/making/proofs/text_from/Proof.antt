@@ -1,101 +1,49 @@
--- `making::text_from` meets its contract, case by case.
+-- `text_from` meets its contract: only a DC of type C, X or D has its columns.
+use mathlib.Core.List.{_∷_, []}
+use mathlib.Core.Path.{_≡_, refl}
+use types.Run.{OneOf, miss}
+use denote.Enum.Declared.{tagOf}
+use Rattle.forms.specs.declared.Shape.{Shape}
+use Rattle.forms.specs.declared.Shape.the-variants.{Fails, Nothing, StartAt, Expression, Pair, Target, Two, One, Only, Constant, Reserve}
+use Rattle.forms.proofs.Shape.{the-type}
+use Rattle.statements.specs.declared.Statement.{Statement}
+use Rattle.making.specs.declared.Text.the-variants.{Stated}
+use Rattle.making.specs.Steps.{textFrom}
 use borrow.Author.Needs.{needs}
-use Rattle.two.proofs.making.text_from.Statement.{statement}
-use Rattle.two.proofs.making.text_from.Tie as tie
+use Rattle.making.proofs.text_from.Statement.{statement}
+use Rattle.making.proofs.text_from.Tie as tie
+use Rattle.making.proofs.text_from.Reads as reads
+use Rattle.making.proofs.text_from.Lts as lts
+use Rattle.making.proofs.text_by.Reads as text-by-reads
 
-enum-told : tie.Need-enum-told
-enum-told c = search needs
-
-enum-told-2 : tie.Need-enum-told-2
-enum-told-2 c = search needs
-
-enum-told-3 : tie.Need-enum-told-3
-enum-told-3 c = search needs
-
-enum-told-4 : tie.Need-enum-told-4
-enum-told-4 c = search needs
-
-enum-told-5 : tie.Need-enum-told-5
-enum-told-5 c = search needs
-
-enum-told-6 : tie.Need-enum-told-6
-enum-told-6 c = search needs
-
-enum-told-7 : tie.Need-enum-told-7
-enum-told-7 c = search needs
-
-enum-told-8 : tie.Need-enum-told-8
-enum-told-8 c = search needs
-
-enum-told-9 : tie.Need-enum-told-9
-enum-told-9 c = search needs
-
+-- src/lib.rt:88:25
 enum-known-shape : tie.Need-enum-known-shape
 enum-known-shape c = search needs
 
+-- src/lib.rt:90:13
 text-by-requires : tie.Need-text-by-requires
 text-by-requires c κs = search needs
 
-enum-told-10 : tie.Need-enum-told-10
-enum-told-10 c = search needs
-
+-- src/lib.rt:84:1
 returns : tie.Need-returns
-returns c = rw (c .enum-told .given .1)
+returns c = rw (c .before .before .shape .given .1) (c .text-by .ensures)
 
+others : (x : Shape) (st : Statement) → OneOf (0 ∷ 1 ∷ 2 ∷ 3 ∷ 4 ∷ 5 ∷ 6 ∷ 7 ∷ 8 ∷ 10 ∷ []) (tagOf the-type x) → Stated st ≡ textFrom x st
+others (Fails q) st k = refl
+others Nothing st k = refl
+others (StartAt v) st k = refl
+others Expression st k = refl
+others (Pair p) st k = refl
+others Target st k = refl
+others (Two a b) st k = refl
+others (One a p) st k = refl
+others (Only a) st k = refl
+others (Constant d) st k = absurd (miss (0 ∷ 1 ∷ 2 ∷ 3 ∷ 4 ∷ 5 ∷ 6 ∷ 7 ∷ 8 ∷ 10 ∷ []) 9 tt k)
+others (Reserve d) st k = refl
+
+-- src/lib.rt:84:1
 returns-2 : tie.Need-returns-2
-returns-2 c = rw (c .enum-told2 .given .1)
-
-returns-3 : tie.Need-returns-3
-returns-3 c = rw (c .enum-told3 .given .1)
-
-returns-4 : tie.Need-returns-4
-returns-4 c = rw (c .enum-told4 .given .1)
-
-returns-5 : tie.Need-returns-5
-returns-5 c = rw (c .enum-told5 .given .1)
-
-returns-6 : tie.Need-returns-6
-returns-6 c = rw (c .enum-told6 .given .1)
-
-returns-7 : tie.Need-returns-7
-returns-7 c = rw (c .enum-told7 .given .1)
-
-returns-8 : tie.Need-returns-8
-returns-8 c = rw (c .enum-told8 .given .1)
-
-returns-9 : tie.Need-returns-9
-returns-9 c = rw (c .enum-told9 .given .1)
-
-returns-10 : tie.Need-returns-10
-returns-10 c = rw (c .before .before .shape .given .1, c .text-by .ensures)
-
-returns-11 : tie.Need-returns-11
-returns-11 c = rw (c .enum-told10 .given .1)
+returns-2 c = others (c .before .args .shape) (c .before .args .st) (c .match .keys2)
 
 pub text-from-spec : {M : Type 1} → statement M
-text-from-spec =
-    tie.close
-    (tie.spec
-    enum-told
-    enum-told-2
-    enum-told-3
-    enum-told-4
-    enum-told-5
-    enum-told-6
-    enum-told-7
-    enum-told-8
-    enum-told-9
-    enum-known-shape
-    text-by-requires
-    enum-told-10
-    returns
-    returns-2
-    returns-3
-    returns-4
-    returns-5
-    returns-6
-    returns-7
-    returns-8
-    returns-9
-    returns-10
-    returns-11)
+text-from-spec = tie.close (tie.spec enum-known-shape text-by-requires returns returns-2)

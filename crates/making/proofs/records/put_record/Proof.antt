@@ -8,11 +8,11 @@ use Rattle.values.specs.Words.{twoBytes}
 use mathlib.Core.Path.{refl, sym, ap, _∙_}
 use Prim.Native.Nat.{_+_, _%_}
 use Rattle.encode.specs.Pieces.{textOf, fieldsOf}
-use Rattle.two.specs.Steps.{textPieces}
-use Rattle.two.proofs.Writing.{fields-are, length-is, text-short, text-half, record-is}
+use Rattle.making.specs.Steps.{textPieces}
+use Rattle.making.proofs.Writing.{fields-are, length-is, text-short, text-half, record-is}
 use borrow.Author.Needs.{needs}
-use Rattle.two.proofs.records.put_record.Statement.{statement}
-use Rattle.two.proofs.records.put_record.Tie as tie
+use Rattle.making.proofs.records.put_record.Statement.{statement}
+use Rattle.making.proofs.records.put_record.Tie as tie
 
 text-length-requires : tie.Need-text-length-requires
 text-length-requires c κs = search needs

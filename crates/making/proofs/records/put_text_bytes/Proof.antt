@@ -1,8 +1,8 @@
 -- `records::put_text_bytes` meets its contract, case by case.
 use Rattle.encode.proofs.Laws.{plain-text}
 use borrow.Author.Needs.{needs}
-use Rattle.two.proofs.records.put_text_bytes.Statement.{statement}
-use Rattle.two.proofs.records.put_text_bytes.Tie as tie
+use Rattle.making.proofs.records.put_text_bytes.Statement.{statement}
+use Rattle.making.proofs.records.put_text_bytes.Tie as tie
 
 enum-known-t : tie.Need-enum-known-t
 enum-known-t c = search needs

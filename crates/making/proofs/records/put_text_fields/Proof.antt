@@ -1,7 +1,7 @@
 -- `records::put_text_fields` meets its contract, case by case.
 use borrow.Author.Needs.{needs}
-use Rattle.two.proofs.records.put_text_fields.Statement.{statement}
-use Rattle.two.proofs.records.put_text_fields.Tie as tie
+use Rattle.making.proofs.records.put_text_fields.Statement.{statement}
+use Rattle.making.proofs.records.put_text_fields.Tie as tie
 
 enum-told : tie.Need-enum-told
 enum-told c = search needs

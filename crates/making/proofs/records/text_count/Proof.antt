@@ -1,7 +1,7 @@
 -- `records::text_count` meets its contract, case by case.
 use borrow.Author.Needs.{needs}
-use Rattle.two.proofs.records.text_count.Statement.{statement}
-use Rattle.two.proofs.records.text_count.Tie as tie
+use Rattle.making.proofs.records.text_count.Statement.{statement}
+use Rattle.making.proofs.records.text_count.Tie as tie
 
 enum-told : tie.Need-enum-told
 enum-told c = search needs

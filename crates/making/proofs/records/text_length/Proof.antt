@@ -1,7 +1,7 @@
 -- `records::text_length` meets its contract, case by case.
 use borrow.Author.Needs.{needs}
-use Rattle.two.proofs.records.text_length.Statement.{statement}
-use Rattle.two.proofs.records.text_length.Tie as tie
+use Rattle.making.proofs.records.text_length.Statement.{statement}
+use Rattle.making.proofs.records.text_length.Tie as tie
 
 enum-known-t : tie.Need-enum-known-t
 enum-known-t c = search needs
