@@ -2,11 +2,6 @@
 use borrow.Author.Needs.{needs}
 use Rattle.making.proofs.course_after.Statement.{statement}
 use Rattle.making.proofs.course_after.Tie as tie
-use Rattle.making.proofs.course_after.Reads as reads
-use Rattle.making.proofs.course_after.Lts as lts
-use Rattle.passes.proofs.counter_by.Reads as counter-by-reads
-use Rattle.passes.proofs.role_of.Reads as role-of-reads
-use Rattle.statements.proofs.bases_after.Reads as bases-after-reads
 
 -- src/lib.rt:66:30
 role-of-requires : tie.Need-role-of-requires

@@ -7,11 +7,6 @@ use Rattle.making.proofs.Cards.{line-sound}
 use borrow.Author.Needs.{needs}
 use Rattle.making.proofs.make_card.Statement.{statement}
 use Rattle.making.proofs.make_card.Tie as tie
-use Rattle.making.proofs.make_card.Reads as reads
-use Rattle.making.proofs.make_card.Lts as lts
-use Rattle.lines.proofs.read_line.Reads as read-line-reads
-use Rattle.making.proofs.make_line.Reads as make-line-reads
-use Rattle.making.proofs.make_none.Reads as make-none-reads
 
 -- src/lib.rt:179:11
 read-line-requires : tie.Need-read-line-requires

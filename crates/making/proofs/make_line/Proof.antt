@@ -3,16 +3,6 @@ use Rattle.lines.proofs.Laws.{line-within}
 use borrow.Author.Needs.{needs}
 use Rattle.making.proofs.make_line.Statement.{statement}
 use Rattle.making.proofs.make_line.Tie as tie
-use Rattle.making.proofs.make_line.Reads as reads
-use Rattle.making.proofs.make_line.Lts as lts
-use Rattle.making.proofs.course_after.Reads as course-after-reads
-use Rattle.making.proofs.sought_by.Reads as sought-by-reads
-use Rattle.making.proofs.text_from.Reads as text-from-reads
-use Rattle.passes.proofs.operands_at.Reads as operands-at-reads
-use Rattle.passes.proofs.role_of.Reads as role-of-reads
-use Rattle.statements.proofs.lone_value.Reads as lone-value-reads
-use Rattle.statements.proofs.number_of.Reads as number-of-reads
-use Rattle.statements.proofs.statement_from.Reads as statement-from-reads
 
 -- src/lib.rt:143:9
 operands-at-requires : tie.Need-operands-at-requires

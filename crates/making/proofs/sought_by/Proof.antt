@@ -12,9 +12,6 @@ use Rattle.making.specs.Steps.{soughtBy}
 use borrow.Author.Needs.{needs}
 use Rattle.making.proofs.sought_by.Statement.{statement}
 use Rattle.making.proofs.sought_by.Tie as tie
-use Rattle.making.proofs.sought_by.Reads as reads
-use Rattle.making.proofs.sought_by.Lts as lts
-use Rattle.making.proofs.entry_by.Reads as entry-by-reads
 
 -- src/lib.rt:109:37
 enum-told : tie.Need-enum-told

@@ -13,8 +13,6 @@ use Rattle.making.specs.Steps.{textBy}
 use borrow.Author.Needs.{needs}
 use Rattle.making.proofs.text_by.Statement.{statement}
 use Rattle.making.proofs.text_by.Tie as tie
-use Rattle.making.proofs.text_by.Reads as reads
-use Rattle.making.proofs.text_by.Lts as lts
 
 -- src/lib.rt:78:30
 enum-told : tie.Need-enum-told

@@ -12,9 +12,6 @@ use Rattle.making.specs.Steps.{textFrom}
 use borrow.Author.Needs.{needs}
 use Rattle.making.proofs.text_from.Statement.{statement}
 use Rattle.making.proofs.text_from.Tie as tie
-use Rattle.making.proofs.text_from.Reads as reads
-use Rattle.making.proofs.text_from.Lts as lts
-use Rattle.making.proofs.text_by.Reads as text-by-reads
 
 -- src/lib.rt:88:25
 enum-known-shape : tie.Need-enum-known-shape

@@ -1,5 +1,5 @@
 -- `records::put_made` meets its contract: a text without a byte has no record, and nothing is laid where the pass does not write.
-use mathlib.Core.Path.{_≡_, refl, sym, ap, _∙_}
+use mathlib.Core.Path.{_≡_, sym, ap, _∙_}
 use native.Mathlib.Omega.{arith}
 use Prim.Native.Nat.{ℕ, _+_, _-_, _≤_}
 use lib.ListN.{length}
@@ -8,17 +8,11 @@ use borrow.Author.Tests.{ne-eqb}
 use Rattle.values.specs.Words.{part}
 use Rattle.book.specs.Writing.{recordLength}
 use Rattle.making.specs.declared.Made.{Made}
-use Rattle.making.specs.Steps.{textPieces, textLength, textFields, madeLength, laidIf, madeRecord}
+use Rattle.making.specs.Steps.{textPieces, textLength, textFields, madeLength}
 use Rattle.making.proofs.Writing.{length-is, text-short, text-half, record-none, record-some}
 use borrow.Author.Needs.{needs}
 use Rattle.making.proofs.records.put_made.Statement.{statement}
 use Rattle.making.proofs.records.put_made.Tie as tie
-use Rattle.making.proofs.records.put_made.Reads as reads
-use Rattle.making.proofs.records.put_made.Lts as lts
-use Rattle.book.proofs.writing.record_length.Reads as record-length-reads
-use Rattle.making.proofs.records.put_record.Reads as put-record-reads
-use Rattle.making.proofs.records.text_count.Reads as text-count-reads
-use Rattle.making.proofs.records.text_length.Reads as text-length-reads
 
 -- src/records.rt:106:9
 text-length-requires : tie.Need-text-length-requires
