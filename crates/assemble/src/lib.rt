@@ -1,8 +1,8 @@
 // The whole assembly: refusals 1, 2 and 3, both passes, 30, the book; then the work area is cleared.
 use cards::source::source_no;
 use names::clear;
-use one::One;
-use one::run_one;
+use pass_one::PassedOne;
+use pass_one::run_one;
 use pass_two::Judged;
 use pass_two::run_two;
 use passes::Assembled;
@@ -62,8 +62,8 @@ fn translate(width: usize, source: &[u8], work: &mut [u8], out: &mut [u8]) -> As
     ensures { λ _. ⌜ now (out .exit) ≡ outcomeOf (assembled (cardsOf width (now (source .entry)))) (now (work .entry)) (now (out .entry)) .out ⌝ }
 {
     match run_one(width, source, work) {
-        One::Stopped(number, card) => Assembled::Refused(number, card),
-        One::Through(p) => finish(width, source, work, p.count, out),
+        PassedOne::Stopped(number, card) => Assembled::Refused(number, card),
+        PassedOne::Through(p) => finish(width, source, work, p.count, out),
     }
 }
 

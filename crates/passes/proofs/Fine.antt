@@ -33,7 +33,7 @@ pub record Fine (st : State) (s : List ℕ) (l : Line) : Type 0 where
   pub sizes : dataNo (l .shape) ≡ 0
   pub room : st .counter + sizeOf (l .operation) (l .shape) ≤ 65536
 
-room-fits : (counter size : ℕ) → roomNo counter size ≡ 0 → counter + size ≤ 65536
+pub room-fits : (counter size : ℕ) → roomNo counter size ≡ 0 → counter + size ≤ 65536
 room-fits counter size h = go (leb (counter + size) 65536) refl h
   where
     go : (b : Bool) → leb (counter + size) 65536 ≡ b → pick {X = ℕ} b 0 24 ≡ 0 → counter + size ≤ 65536

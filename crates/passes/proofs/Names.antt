@@ -23,23 +23,23 @@ use Rattle.passes.proofs.Turns.{pass-end, pass-turn}
 use Rattle.passes.proofs.Fine.{fine, one-zero}
 
 -- what is kept by every name that is new, where there is room for it, is kept by a line
-entered-keeps : (P : List Name → Type 0) (st : State) (s : List ℕ) (l : Line) → ifNamed (l .name) (nameRefusal mostNames (st .names) (l .name)) ≡ 0
+after-keeps : (P : List Name → Type 0) (st : State) (s : List ℕ) (l : Line) → ifNamed (l .name) (nameRefusal mostNames (st .names) (l .name)) ≡ 0
     → ((x : Name) → find (st .names) (x .number) ≡ Unknown → length (st .names) < mostNames → P (defined x (st .names)))
     → P (st .names) → P (namesAfter st s l)
 unfolding namesAfter
-entered-keeps P st s l e d p = go _ refl (eqb (l .name) 0) e
+after-keeps P st s l e d p = go _ refl (eqb (l .name) 0) e
   where
     go : (x : Name) → x .number ≡ l .name → (b : Bool) → pick b 0 (nameRefusal mostNames (st .names) (l .name)) ≡ 0 → P (pick b (st .names) (defined x (st .names)))
     go x n true e = p
     go x n false e = let r = refusal-none mostNames (st .names) (l .name) e in d x (rw n (r .0)) (r .1)
 
-pub entered-ascending : (st : State) (s : List ℕ) (l : Line) → ifNamed (l .name) (nameRefusal mostNames (st .names) (l .name)) ≡ 0
+after-ascending : (st : State) (s : List ℕ) (l : Line) → ifNamed (l .name) (nameRefusal mostNames (st .names) (l .name)) ≡ 0
     → ascending (st .names) ≡ true → ascending (namesAfter st s l) ≡ true
-entered-ascending st s l e h = entered-keeps (λ ns. ascending ns ≡ true) st s l e (λ x n f. ascending-defined x (st .names) h n) h
+after-ascending st s l e h = after-keeps (λ ns. ascending ns ≡ true) st s l e (λ x n f. ascending-defined x (st .names) h n) h
 
-pub entered-few : (st : State) (s : List ℕ) (l : Line) → ifNamed (l .name) (nameRefusal mostNames (st .names) (l .name)) ≡ 0
+after-few : (st : State) (s : List ℕ) (l : Line) → ifNamed (l .name) (nameRefusal mostNames (st .names) (l .name)) ≡ 0
     → length (st .names) ≤ mostNames → length (namesAfter st s l) ≤ mostNames
-entered-few st s l e h = entered-keeps (λ ns. length ns ≤ mostNames) st s l e (λ x n f. omega (arith, defined-length x (st .names))) h
+after-few st s l e h = after-keeps (λ ns. length ns ≤ mostNames) st s l e (λ x n f. omega (arith, defined-length x (st .names))) h
 
 -- what every new name keeps, a pass keeps
 module _ (P : List Name → Type 0) (keeps : (st : State) (s : List ℕ) (l : Line) → ifNamed (l .name) (nameRefusal mostNames (st .names) (l .name)) ≡ 0 → P (st .names) → P (namesAfter st s l)) where
@@ -63,8 +63,11 @@ module _ (P : List Name → Type 0) (keeps : (st : State) (s : List ℕ) (l : Li
       let t = pass-turn k st a s ss e in
       pass-keeps ss (k + 1) (stepOne st s) a (t .1) (step-keeps st s (t .0) p)
 
+pub step-ascending : (st : State) (s : List ℕ) → oneNo st s ≡ 0 → ascending (st .names) ≡ true → ascending (stepOne st s .names) ≡ true
+step-ascending = step-keeps (λ ns. ascending ns ≡ true) after-ascending
+
 pub pass-ascending : (ss : List (List ℕ)) (k : ℕ) (st a : State) → passOne k st ss ≡ through a → ascending (st .names) ≡ true → ascending (a .names) ≡ true
-pass-ascending = pass-keeps (λ ns. ascending ns ≡ true) entered-ascending
+pass-ascending = pass-keeps (λ ns. ascending ns ≡ true) after-ascending
 
 pub pass-few : (ss : List (List ℕ)) (k : ℕ) (st a : State) → passOne k st ss ≡ through a → length (st .names) ≤ mostNames → length (a .names) ≤ mostNames
-pass-few = pass-keeps (λ ns. length ns ≤ mostNames) entered-few
+pass-few = pass-keeps (λ ns. length ns ≤ mostNames) after-few
