@@ -27,7 +27,7 @@ use Rattle.passes.specs.One.Passed.{stopped}
 use Rattle.passes.proofs.Turns.{pass-more, pass-stop, pass-end}
 use Rattle.passes.proofs.Fine.{room-fits, one-zero}
 use Rattle.passes.proofs.Named.{sizes-fit, length-short}
-use Rattle.naming.specs.Entering.{Enters}
+use Rattle.defining.specs.Entering.{Enters}
 use Rattle.pass_one.specs.declared.Early.{Early}
 use Rattle.pass_one.specs.Code.{earlyFrom, earlyIn, valueBy, lineBy, readingBy, stepBy, nameFits}
 

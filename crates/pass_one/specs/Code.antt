@@ -23,7 +23,7 @@ use Rattle.passes.specs.declared.Role.the-variants.{Starts, Equates, SetsCounte
 use Rattle.passes.specs.Cards.{roleOf, operandsAt, counterBy}
 use Rattle.passes.specs.One.{State, Passed, startNo, mostNames, ifNamed, dataNo, roomNo, phaseAfter}
 use Rattle.passes.specs.One.Passed.{through, stopped}
-use Rattle.naming.specs.Entering.{overBy, enteredBy}
+use Rattle.defining.specs.Entering.{overBy, enteredBy}
 use Rattle.pass_one.specs.declared.Pass.{Pass}
 use Rattle.pass_one.specs.declared.PassedOne.{PassedOne}
 use Rattle.pass_one.specs.declared.PassedOne.the-variants.{Through, Stopped}
