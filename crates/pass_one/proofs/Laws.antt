@@ -1,13 +1,13 @@
 -- Pass one over what it looks at of an operand is pass one; what a line that is let through enters; a turn over the cards.
-use Prim.Native.Nat.{ℕ, _+_, _-_, _≤_, _<_}
+use Prim.Native.Nat.{ℕ, _+_, _-_, _*_, _/_, _≤_, _<_}
 use mathlib.Core.List.{List}
 use mathlib.Core.Path.{_≡_, refl, sym, ap, _∙_}
 use native.Mathlib.Omega.{arith}
+use lib.ListN.{length, drop}
 use Rattle.values.specs.Words.{part}
 use Rattle.values.proofs.Refusals.{or-zero}
-use Rattle.names.specs.declared.Entry.{Entry}
 use Rattle.names.specs.Names.{find}
-use Rattle.cards.specs.Source.{columnsOf, cardsFrom}
+use Rattle.cards.specs.Source.{columnsOf, cardsFrom, cardsOf}
 use Rattle.cards.proofs.Laws.{cards-more, cards-none}
 use Rattle.operations.specs.declared.Operation.{Operation}
 use Rattle.forms.specs.Size.{sizeOf}
@@ -22,14 +22,17 @@ use Rattle.passes.specs.declared.Phase.{Phase}
 use Rattle.passes.specs.declared.Role.{Role}
 use Rattle.passes.specs.declared.Role.the-variants.{Starts, Equates, SetsCounter, Ends, Advances}
 use Rattle.passes.specs.Cards.{roleOf, operandsAt, counterBy, counterAfter, nameValueBy, nameValue}
-use Rattle.passes.specs.One.{State, earlyBy, earlyNo, overNo, valueNo, lineNo, readingNo, namesAfter, readingStep, oneNo, stepOne, endedAs, passOne}
+use Rattle.passes.specs.One.{State, fresh, earlyBy, earlyNo, overNo, valueNo, lineNo, readingNo, namesAfter, readingStep, oneNo, stepOne, endedAs, passOne}
 use Rattle.passes.specs.One.Passed.{stopped}
 use Rattle.passes.proofs.Turns.{pass-more, pass-stop, pass-end}
 use Rattle.passes.proofs.Fine.{room-fits, one-zero}
+use Rattle.passes.proofs.Counter.{step-low}
+use Rattle.passes.proofs.Names.{step-ascending}
 use Rattle.passes.proofs.Named.{sizes-fit, length-short}
 use Rattle.defining.specs.Entering.{Enters}
 use Rattle.pass_one.specs.declared.Early.{Early}
-use Rattle.pass_one.specs.Code.{earlyFrom, earlyIn, valueBy, lineBy, readingBy, stepBy, nameFits}
+use Rattle.pass_one.specs.declared.Pass.{Pass}
+use Rattle.pass_one.specs.Code.{earlyFrom, earlyIn, valueBy, lineBy, readingBy, stepBy, nameFits, standsFor, Fit}
 
 -- THE OPERAND THAT PASS ONE LOOKS AT
 
@@ -121,3 +124,23 @@ module _ (k width left at : ℕ) (st : State) (source s : List ℕ) (some : 0 < 
 pub turn-end : (k width left at : ℕ) (st : State) (source : List ℕ) (phase : Phase) → left ≤ 0 → st .phase ≡ phase
     → passOne k st (cardsFrom left width source at) ≡ endedAs phase st
 turn-end k width left at st source phase none e = rw (cards-none left width source at none) (pass-end k st ∙ ap (λ f. endedAs f st) e)
+
+-- between two cards: the pass over all cards is the pass over those left, from the state now
+pub record Ran (width : ℕ) (source table₀ table : List ℕ) (p : Pass) (left at k : ℕ) : Type 0 where
+  pub whole : at + width * left ≡ length source
+  pub cards : k + left ≡ 1 + length source / width
+  pub same : length table ≡ length table₀
+  pub fit : Fit p table
+  pub rest : drop 8192 table ≡ drop 8192 table₀
+  pub pass : passOne 1 fresh (cardsOf width source) ≡ passOne k (standsFor p table) (cardsFrom left width source at)
+
+-- behind a card that is let through
+pub next-fits : (p q : Pass) (t u s : List ℕ) → oneNo (standsFor p t) s ≡ 0 → Fit p t → standsFor q u ≡ stepOne (standsFor p t) s → q .count ≤ 512 → Fit q u
+next-fits p q t u s h f is few =
+    let names = ap (λ (st : State). st .names) is in
+    let counter = ap (λ (st : State). st .counter) is in
+    record {
+      few = few;
+      low = rw counter (step-low (standsFor p t) s h (f .low));
+      ordered = rw names (step-ascending (standsFor p t) s h (f .ordered));
+    }

@@ -14,12 +14,6 @@ use Rattle.passes.specs.Cards.{nameValueBy}
 use borrow.Author.Needs.{needs}
 use Rattle.defining.proofs.amount_named.Statement.{statement}
 use Rattle.defining.proofs.amount_named.Tie as tie
-use Rattle.defining.proofs.amount_named.Reads as reads
-use Rattle.defining.proofs.amount_named.Lts as lts
-use Rattle.names.proofs.amount_of.Reads as amount-of-reads
-use Rattle.defining.proofs.place_named.Reads as place-named-reads
-use Rattle.passes.proofs.start_value.Reads as start-value-reads
-use Rattle.values.proofs.words.wide16.Reads as wide16-reads
 
 -- src/lib.rt:65:32
 enum-told : tie.Need-enum-told

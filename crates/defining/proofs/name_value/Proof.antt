@@ -6,7 +6,7 @@ use Rattle.passes.specs.declared.Role.{Role}
 use Rattle.passes.specs.declared.Role.the-variants.{Starts, Equates, SetsCounter, Ends, Advances}
 use Rattle.passes.proofs.Role.{the-type}
 use Prim.Native.Nat.{ℕ}
-use mathlib.Core.Path.{_≡_, refl, ap}
+use mathlib.Core.Path.{_≡_, ap}
 use Rattle.values.specs.declared.Value.{Value}
 use Rattle.values.specs.declared.Value.the-variants.{Relocatable}
 use Rattle.names.specs.Table.{amountOf}
@@ -15,9 +15,6 @@ use Rattle.passes.specs.Cards.{nameValueBy}
 use borrow.Author.Needs.{needs}
 use Rattle.defining.proofs.name_value.Statement.{statement}
 use Rattle.defining.proofs.name_value.Tie as tie
-use Rattle.defining.proofs.name_value.Reads as reads
-use Rattle.defining.proofs.name_value.Lts as lts
-use Rattle.defining.proofs.amount_named.Reads as amount-named-reads
 
 -- src/lib.rt:77:17
 amount-named-requires : tie.Need-amount-named-requires

@@ -1,15 +1,9 @@
+-- `line_no` meets its contract: each rule in its order.
+-- `line_no` meets its contract: each rule in its order.
+use Rattle.pass_one.specs.Code.{lineBy}
 use borrow.Author.Needs.{needs}
 use Rattle.pass_one.proofs.line_no.Statement.{statement}
 use Rattle.pass_one.proofs.line_no.Tie as tie
-use Rattle.pass_one.proofs.line_no.Reads as reads
-use Rattle.pass_one.proofs.line_no.Lts as lts
-use Rattle.lines.proofs.shape_no.Reads as shape-no-reads
-use Rattle.defining.proofs.refusals.start_no.Reads as start-no-reads
-use Rattle.operations.proofs.codes.name_no.Reads as name-no-reads
-use Rattle.operations.proofs.codes.operation_no.Reads as operation-no-reads
-use Rattle.pass_one.proofs.value_no.Reads as value-no-reads
-use Rattle.passes.proofs.role_of.Reads as role-of-reads
-use Rattle.values.proofs.numbers.or_else.Reads as or-else-reads
 
 -- src/lib.rt:128:9
 operation-no-requires : tie.Need-operation-no-requires
@@ -53,7 +47,8 @@ or-else-requires-4 c κs = search needs
 
 -- src/lib.rt:121:1
 returns : tie.Need-returns
-returns c = ?
+unfolding lineBy
+returns c = cc
 
 pub line-no-spec : {M : Type 1} → statement M
 line-no-spec =

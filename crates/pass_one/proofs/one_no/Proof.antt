@@ -1,12 +1,11 @@
+-- `one_no` meets its contract: each rule in its order.
+-- `one_no` meets its contract: each rule in its order.
+use Rattle.passes.specs.One.{oneNo}
+use Rattle.pass_one.specs.Code.{standsFor}
+use Rattle.pass_one.proofs.Laws.{read-no}
 use borrow.Author.Needs.{needs}
 use Rattle.pass_one.proofs.one_no.Statement.{statement}
 use Rattle.pass_one.proofs.one_no.Tie as tie
-use Rattle.pass_one.proofs.one_no.Reads as reads
-use Rattle.pass_one.proofs.one_no.Lts as lts
-use Rattle.cards.proofs.byte_no.Reads as byte-no-reads
-use Rattle.defining.proofs.refusals.after_end_no.Reads as after-end-no-reads
-use Rattle.pass_one.proofs.reading_no.Reads as reading-no-reads
-use Rattle.values.proofs.numbers.or_else.Reads as or-else-reads
 
 -- src/lib.rt:155:9
 after-end-no-requires : tie.Need-after-end-no-requires
@@ -30,7 +29,8 @@ or-else-requires-2 c κs = search needs
 
 -- src/lib.rt:149:1
 returns : tie.Need-returns
-returns c = ?
+unfolding oneNo
+returns c = let a = c .before .before .before .before .before .before .before .args in let p = c .before .before .before .before .before .before .before .pre .1 in cc (read-no (standsFor (a .p) (a .table .now)) (a .card .now) (a .reading) (a .e) (p .0) (p .1))
 
 pub one-no-spec : {M : Type 1} → statement M
 one-no-spec =

@@ -1,9 +1,8 @@
+-- `reading_no` meets its contract, case by case.
+-- `reading_no` meets its contract, case by case.
 use borrow.Author.Needs.{needs}
 use Rattle.pass_one.proofs.reading_no.Statement.{statement}
 use Rattle.pass_one.proofs.reading_no.Tie as tie
-use Rattle.pass_one.proofs.reading_no.Reads as reads
-use Rattle.pass_one.proofs.reading_no.Lts as lts
-use Rattle.pass_one.proofs.line_no.Reads as line-no-reads
 
 -- src/lib.rt:142:29
 enum-told : tie.Need-enum-told
@@ -31,7 +30,7 @@ returns-2 c = search needs
 
 -- src/lib.rt:137:1
 returns-3 : tie.Need-returns-3
-returns-3 c = ?
+returns-3 c = rw (c .before .before .reading .given .1) (c .line-no .ensures)
 
 pub reading-no-spec : {M : Type 1} → statement M
 reading-no-spec =

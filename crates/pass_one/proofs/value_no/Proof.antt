@@ -1,15 +1,9 @@
+-- `value_no` meets its contract: each rule in its order.
+-- `value_no` meets its contract: each rule in its order.
+use Rattle.pass_one.specs.Code.{valueBy}
 use borrow.Author.Needs.{needs}
 use Rattle.pass_one.proofs.value_no.Statement.{statement}
 use Rattle.pass_one.proofs.value_no.Tie as tie
-use Rattle.pass_one.proofs.value_no.Reads as reads
-use Rattle.pass_one.proofs.value_no.Lts as lts
-use Rattle.forms.proofs.size_of.Reads as size-of-reads
-use Rattle.defining.proofs.refusals.data_no.Reads as data-no-reads
-use Rattle.defining.proofs.refusals.new_no.Reads as new-no-reads
-use Rattle.defining.proofs.refusals.over_no.Reads as over-no-reads
-use Rattle.defining.proofs.refusals.room_no.Reads as room-no-reads
-use Rattle.passes.proofs.role_of.Reads as role-of-reads
-use Rattle.values.proofs.numbers.or_else.Reads as or-else-reads
 
 -- src/lib.rt:113:9
 new-no-requires : tie.Need-new-no-requires
@@ -53,7 +47,8 @@ or-else-requires-4 c κs = search needs
 
 -- src/lib.rt:106:1
 returns : tie.Need-returns
-returns c = ?
+unfolding valueBy
+returns c = cc
 
 pub value-no-spec : {M : Type 1} → statement M
 value-no-spec =

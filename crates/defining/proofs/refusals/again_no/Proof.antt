@@ -11,8 +11,6 @@ use Rattle.passes.specs.One.{againNo}
 use borrow.Author.Needs.{needs}
 use Rattle.defining.proofs.refusals.again_no.Statement.{statement}
 use Rattle.defining.proofs.refusals.again_no.Tie as tie
-use Rattle.defining.proofs.refusals.again_no.Reads as reads
-use Rattle.defining.proofs.refusals.again_no.Lts as lts
 
 -- src/refusals.rt:36:25
 enum-told : tie.Need-enum-told

@@ -11,8 +11,6 @@ use Rattle.passes.specs.One.{missingNo}
 use borrow.Author.Needs.{needs}
 use Rattle.defining.proofs.refusals.missing_no.Statement.{statement}
 use Rattle.defining.proofs.refusals.missing_no.Tie as tie
-use Rattle.defining.proofs.refusals.missing_no.Reads as reads
-use Rattle.defining.proofs.refusals.missing_no.Lts as lts
 
 -- src/refusals.rt:45:25
 enum-told : tie.Need-enum-told
