@@ -10,13 +10,12 @@ ghost use mathlib.Core.Path.{_≡_};
 ghost use mathlib.Core.Bool.{true};
 ghost use Prim.Native.Nat.{_*_, _^_, _≤_, _<_};
 ghost use lib.ListN.{length, drop};
-ghost use Rattle.names.specs.Names.{find, ascending};
+ghost use Rattle.names.specs.Names.{ascending};
 ghost use Rattle.names.specs.Table.{namesIn};
 ghost use Rattle.cards.specs.Source.{sourceNo, cardsOf};
-ghost use Rattle.book.specs.Writing.{bookBytes};
 ghost use Rattle.passes.specs.Sound.{sound};
-ghost use Rattle.passes.specs.Two.{outset, checkTwo, bookFrom};
 ghost use Rattle.passes.specs.Two.Checked.{clean};
+ghost use Rattle.pass_two.specs.Code.{checkedIn, bytesIn};
 ghost use Rattle.passes.specs.Assembly.{afterTwo, assembled, written, outcomeOf, assembling};
 
 // 30, or the book in the output: pass two, which has refused no card and found so many bytes, once more.
@@ -30,9 +29,9 @@ fn write(
 ) -> Assembled
     requires { ⌜ (sourceNo width (length (now source)) ≡ 0) × (sound (cardsOf width (now source)) ≡ true) ⌝ }
     requires { ⌜ (16 * count ≤ length (now table)) × (ascending (namesIn count (now table)) ≡ true) × (count ≤ 512) ⌝ }
-    requires { ⌜ (checkTwo (find (namesIn count (now table))) 1 outset (cardsOf width (now source)) ≡ clean) × (size ≡ length (bookBytes (bookFrom (find (namesIn count (now table))) (cardsOf width (now source))))) × (size < 2 ^ 32) ⌝ }
-    ensures { λ r. ⌜ r ≡ written count (bookBytes (bookFrom (find (namesIn count (now (table .entry)))) (cardsOf width (now (source .entry))))) (now (table .entry)) (now (out .entry)) .answer ⌝ }
-    ensures { λ _. ⌜ now (out .exit) ≡ written count (bookBytes (bookFrom (find (namesIn count (now (table .entry)))) (cardsOf width (now (source .entry))))) (now (table .entry)) (now (out .entry)) .out ⌝ }
+    requires { ⌜ (checkedIn width (now source) (now table) count ≡ clean) × (size ≡ length (bytesIn width (now source) (now table) count)) × (size < 2 ^ 32) ⌝ }
+    ensures { λ r. ⌜ r ≡ written count (bytesIn width (now (source .entry)) (now (table .entry)) count) (now (table .entry)) (now (out .entry)) .answer ⌝ }
+    ensures { λ _. ⌜ now (out .exit) ≡ written count (bytesIn width (now (source .entry)) (now (table .entry)) count) (now (table .entry)) (now (out .entry)) .out ⌝ }
 {
     if out.len() < size {
         return Assembled::Refused(30, 0);
@@ -45,8 +44,8 @@ fn write(
 fn finish(width: usize, source: &[u8], table: &[u8], count: usize, out: &mut [u8]) -> Assembled
     requires { ⌜ (sourceNo width (length (now source)) ≡ 0) × (sound (cardsOf width (now source)) ≡ true) ⌝ }
     requires { ⌜ (16 * count ≤ length (now table)) × (ascending (namesIn count (now table)) ≡ true) × (count ≤ 512) ⌝ }
-    ensures { λ r. ⌜ r ≡ outcomeOf (afterTwo (cardsOf width (now (source .entry))) (namesIn count (now (table .entry))) (checkTwo (find (namesIn count (now (table .entry)))) 1 outset (cardsOf width (now (source .entry))))) (now (table .entry)) (now (out .entry)) .answer ⌝ }
-    ensures { λ _. ⌜ now (out .exit) ≡ outcomeOf (afterTwo (cardsOf width (now (source .entry))) (namesIn count (now (table .entry))) (checkTwo (find (namesIn count (now (table .entry)))) 1 outset (cardsOf width (now (source .entry))))) (now (table .entry)) (now (out .entry)) .out ⌝ }
+    ensures { λ r. ⌜ r ≡ outcomeOf (afterTwo (cardsOf width (now (source .entry))) (namesIn count (now (table .entry))) (checkedIn width (now (source .entry)) (now (table .entry)) count)) (now (table .entry)) (now (out .entry)) .answer ⌝ }
+    ensures { λ _. ⌜ now (out .exit) ≡ outcomeOf (afterTwo (cardsOf width (now (source .entry))) (namesIn count (now (table .entry))) (checkedIn width (now (source .entry)) (now (table .entry)) count)) (now (table .entry)) (now (out .entry)) .out ⌝ }
 {
     match run_two(width, source, table, count, false, out) {
         Judged::Refused(number, card) => Assembled::Refused(number, card),

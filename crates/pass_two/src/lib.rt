@@ -15,15 +15,14 @@ ghost use mathlib.Core.Bool.{true};
 ghost use Prim.Native.Nat.{_*_, _≤_};
 ghost use lib.ListN.{length};
 ghost use lib.Seq.{sets};
-ghost use Rattle.names.specs.Names.{find, ascending};
+ghost use Rattle.names.specs.Names.{ascending};
 ghost use Rattle.names.specs.Table.{namesIn};
-ghost use Rattle.book.specs.Writing.{bookBytes};
 ghost use Rattle.cards.specs.Source.{sourceNo, cardsOf};
 ghost use Rattle.passes.specs.Sound.{sound};
-ghost use Rattle.passes.specs.Two.{outset, checkTwo, bookFrom};
+ghost use Rattle.passes.specs.Two.{outset};
 ghost use Rattle.passes.specs.Two.Checked.{clean};
 ghost use Rattle.making.specs.Steps.{laidIf};
-ghost use Rattle.pass_two.specs.Code.{judgedAs, judgedLength};
+ghost use Rattle.pass_two.specs.Code.{checkedIn, bytesIn, judgedAs, judgedLength};
 
 // What pass two finds: how many bytes the book has, or a number of refusal at a card.
 pub enum Judged {
@@ -55,9 +54,9 @@ pub fn run_two(
 ) -> Judged
     requires { ⌜ (sourceNo width (length (now source)) ≡ 0) × (sound (cardsOf width (now source)) ≡ true) ⌝ }
     requires { ⌜ (16 * count ≤ length (now table)) × (ascending (namesIn count (now table)) ≡ true) ⌝ }
-    requires { ⌜ (writes ≡ true → (checkTwo (find (namesIn count (now table))) 1 outset (cardsOf width (now source)) ≡ clean) × (length (bookBytes (bookFrom (find (namesIn count (now table))) (cardsOf width (now source)))) ≤ length (now out))) ⌝ }
-    ensures { λ r. ⌜ (r ≡ judgedAs (checkTwo (find (namesIn count (now (table .entry)))) 1 outset (cardsOf width (now (source .entry)))) (length (bookBytes (bookFrom (find (namesIn count (now (table .entry)))) (cardsOf width (now (source .entry))))))) × (judgedLength r ≤ 1564008) ⌝ }
-    ensures { λ _. ⌜ now (out .exit) ≡ sets (now (out .entry)) 0 (laidIf writes (bookBytes (bookFrom (find (namesIn count (now (table .entry)))) (cardsOf width (now (source .entry)))))) ⌝ }
+    requires { ⌜ (writes ≡ true → (checkedIn width (now source) (now table) count ≡ clean) × (length (bytesIn width (now source) (now table) count) ≤ length (now out))) ⌝ }
+    ensures { λ r. ⌜ (r ≡ judgedAs (checkedIn width (now (source .entry)) (now (table .entry)) count) (length (bytesIn width (now (source .entry)) (now (table .entry)) count))) × (judgedLength r ≤ 1564008) ⌝ }
+    ensures { λ _. ⌜ now (out .exit) ≡ sets (now (out .entry)) 0 (laidIf writes (bytesIn width (now (source .entry)) (now (table .entry)) count)) ⌝ }
 {
     let columns = columns_of(width as u32);
     let mut c = first_course();

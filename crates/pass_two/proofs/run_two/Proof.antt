@@ -1,4 +1,12 @@
 -- `run_two` meets its contract: its invariant is `Walked`.
+use mathlib.Core.List.{List}
+use mathlib.Core.Bool.{Bool, true, false}
+use Prim.Native.Nat.{ℕ, _+_, _≤_}
+use Rattle.book.specs.Writing.{recordsBytes}
+use Rattle.cards.specs.Source.{columnsOf}
+use Rattle.passes.specs.Two.{outset, checkTwo, cardRecords, entryFrom}
+use Rattle.pass_two.specs.Code.{checkedIn, bytesIn, judgedAs}
+-- `run_two` meets its contract: its invariant is `Walked`.
 use Rattle.pass_two.proofs.Walk.{Walked, walk-sound, walk-fits, walk-room, walk-nothing, walk-stop, walk-bad, walk-on, walk-clean, walk-size, walk-long, walk-header}
 -- `run_two` meets its contract: its invariant is `Walked`.
 -- `run_two` meets its contract: its invariant is `Walked`.
@@ -11,14 +19,10 @@ use Prim.Native.Nat.{_+_}
 use Rattle.values.specs.Words.{part}
 use Rattle.names.specs.Names.{find}
 use Rattle.names.specs.Table.{namesIn}
-use Rattle.book.specs.Writing.{recordsBytes, bookBytes}
-use Rattle.cards.specs.Source.{columnsOf, cardsOf}
 use Rattle.cards.proofs.Whole.{source-whole, card-inside, cards-all}
 use Rattle.passes.specs.Sound.{sound}
-use Rattle.passes.specs.Two.{outset, checkTwo, cardRecords, entryFrom, bookFrom}
 use Rattle.making.specs.Steps.{laidIf}
 use Rattle.pass_two.specs.declared.Judged.the-variants.{Book}
-use Rattle.pass_two.specs.Code.{judgedAs}
 use Rattle.pass_two.proofs.run_two.Statement.{statement}
 use Rattle.pass_two.proofs.run_two.Tie as tie
 
@@ -79,13 +83,15 @@ same-length c = c .before .before .before .before .loop .inv .same
 
 -- src/lib.rt:75:13
 returns : tie.Need-returns Inv-loop μ-loop
+unfolding checkedIn bytesIn
 returns c = let a = c .before .before .before .before .before .before .before .before .before .before .args in let look = find (namesIn (a .count) (a .table .now)) in 
     let stop = walk-bad (c .before .before .before .before .before .before .before .before .before .before .args .width) (c .before .before .before .before .before .before .before .before .before .before .args .source .now) _ (c .before .before .before .before .before .before .before .before .before .before .args .writes) (c .before .before .before .before .before .before .before .before .before .before .args .out .now) _ _ _ (c .before .before .before .before .loop .left) (c .before .before .before .before .loop .at) (c .before .before .before .before .loop .k) (c .before .before .before .before .loop .to) (c .before .before .before .before .loop .inv) _ (card (c .before .before)) (c .before .before .before .loop-test .taken) _ (c .before .make-card .ensures) (c .if1 .taken) in
-    ((sym (ap (λ x. judgedAs x (length (bookBytes (bookFrom look (cardsOf (a .width) (a .source .now)))))) stop), omega arith),
+    ((sym (ap (λ x. judgedAs x (length (bytesIn (a .width) (a .source .now) (a .table .now) (a .count)))) stop), omega arith),
       walk-nothing (c .before .before .before .before .before .before .before .before .before .before .args .width) (c .before .before .before .before .before .before .before .before .before .before .args .source .now) _ (c .before .before .before .before .before .before .before .before .before .before .args .writes) (c .before .before .before .before .before .before .before .before .before .before .args .out .now) _ _ _ (c .before .before .before .before .loop .left) (c .before .before .before .before .loop .at) (c .before .before .before .before .loop .k) (c .before .before .before .before .loop .to) (c .before .before .before .before .loop .inv) (walk-stop (c .before .before .before .before .before .before .before .before .before .before .args .width) (c .before .before .before .before .before .before .before .before .before .before .args .source .now) _ (c .before .before .before .before .before .before .before .before .before .before .args .writes) (c .before .before .before .before .before .before .before .before .before .before .args .out .now) _ _ _ (c .before .before .before .before .loop .left) (c .before .before .before .before .loop .at) (c .before .before .before .before .loop .k) (c .before .before .before .before .loop .to) (c .before .before .before .before .loop .inv) _ _ stop (c .before .before .before .before .before .before .before .before .before .before .pre .1 .1)))
 
 -- src/lib.rt:77:9
 put-made-requires : tie.Need-put-made-requires Inv-loop μ-loop
+unfolding checkedIn bytesIn
 put-made-requires c κs = let near = c .before .before .before .before .before .loop .inv .short in ((walk-fits (c .before .before .before .before .before .before .before .before .before .before .before .args .width) (c .before .before .before .before .before .before .before .before .before .before .before .args .source .now) _ (c .before .before .before .before .before .before .before .before .before .before .before .args .writes) (c .before .before .before .before .before .before .before .before .before .before .before .args .out .now) _ _ _ (c .before .before .before .before .before .loop .left) (c .before .before .before .before .before .loop .at) (c .before .before .before .before .before .loop .k) (c .before .before .before .before .before .loop .to) (c .before .before .before .before .before .loop .inv) _ (card (c .before .before .before)) (c .before .before .before .before .loop-test .taken) _ (c .before .before .make-card .ensures), omega arith), (λ on. walk-room (c .before .before .before .before .before .before .before .before .before .before .before .args .width) (c .before .before .before .before .before .before .before .before .before .before .before .args .source .now) _ (c .before .before .before .before .before .before .before .before .before .before .before .args .writes) (c .before .before .before .before .before .before .before .before .before .before .before .args .out .now) _ _ _ (c .before .before .before .before .before .loop .left) (c .before .before .before .before .before .loop .at) (c .before .before .before .before .before .loop .k) (c .before .before .before .before .before .loop .to) (c .before .before .before .before .before .loop .inv) _ (card (c .before .before .before)) (c .before .before .before .before .loop-test .taken) _ (c .before .before .make-card .ensures) (c .before .before .before .before .before .before .before .before .before .before .before .pre .1 .1 on .1)))
 
 -- src/lib.rt:78:9
@@ -118,6 +124,7 @@ entry-in-requires c κs = search needs
 
 -- src/lib.rt:85:9
 put-header-requires : tie.Need-put-header-requires Inv-loop μ-loop
+unfolding checkedIn bytesIn
 put-header-requires c κs = walk-long (c .before .before .before .before .before .before .before .before .before .before .args .width) (c .before .before .before .before .before .before .before .before .before .before .args .source .now) _ (c .before .before .before .before .before .before .before .before .before .before .args .writes) (c .before .before .before .before .before .before .before .before .before .before .args .out .now) _ _ _ (c .before .before .before .before .loop .left) (c .before .before .before .before .loop .at) (c .before .before .before .before .loop .k) (c .before .before .before .before .loop .to) (c .before .before .before .before .loop .inv) (c .before .before .before .loop-test .left) (c .before .before .before .before .before .before .before .before .before .before .pre .1 .1 (c .before .before .if2 .taken) .1)
 
 -- src/lib.rt:48:1
@@ -126,7 +133,8 @@ same-length-2 c = c .before .before .put-header .kept .1 .1 .0 ∙ c .before .be
 
 -- src/lib.rt:48:1
 returns-2 : tie.Need-returns-2 Inv-loop μ-loop
-returns-2 c = let a = c .before .before .before .before .before .before .before .before .before .before .before .before .before .args in let look = find (namesIn (a .count) (a .table .now)) in let short = c .before .before .before .before .before .before .before .loop .inv .short in ((sym (ap (λ x. judgedAs x (length (bookBytes (bookFrom look (cardsOf (a .width) (a .source .now)))))) (walk-clean (c .before .before .before .before .before .before .before .before .before .before .before .before .before .args .width) (c .before .before .before .before .before .before .before .before .before .before .before .before .before .args .source .now) _ (c .before .before .before .before .before .before .before .before .before .before .before .before .before .args .writes) (c .before .before .before .before .before .before .before .before .before .before .before .before .before .args .out .now) _ _ _ (c .before .before .before .before .before .before .before .loop .left) (c .before .before .before .before .before .before .before .loop .at) (c .before .before .before .before .before .before .before .loop .k) (c .before .before .before .before .before .before .before .loop .to) (c .before .before .before .before .before .before .before .loop .inv) (c .before .before .before .before .before .before .loop-test .left)) ∙ ap Book (walk-size (c .before .before .before .before .before .before .before .before .before .before .before .before .before .args .width) (c .before .before .before .before .before .before .before .before .before .before .before .before .before .args .source .now) _ (c .before .before .before .before .before .before .before .before .before .before .before .before .before .args .writes) (c .before .before .before .before .before .before .before .before .before .before .before .before .before .args .out .now) _ _ _ (c .before .before .before .before .before .before .before .loop .left) (c .before .before .before .before .before .before .before .loop .at) (c .before .before .before .before .before .before .before .loop .k) (c .before .before .before .before .before .before .before .loop .to) (c .before .before .before .before .before .before .before .loop .inv) (c .before .before .before .before .before .before .loop-test .left))), omega arith), walk-header (c .before .before .before .before .before .before .before .before .before .before .before .before .before .args .width) (c .before .before .before .before .before .before .before .before .before .before .before .before .before .args .source .now) _ (c .before .before .before .before .before .before .before .before .before .before .before .before .before .args .writes) (c .before .before .before .before .before .before .before .before .before .before .before .before .before .args .out .now) _ _ _ (c .before .before .before .before .before .before .before .loop .left) (c .before .before .before .before .before .before .before .loop .at) (c .before .before .before .before .before .before .before .loop .k) (c .before .before .before .before .before .before .before .loop .to) (c .before .before .before .before .before .before .before .loop .inv) (c .before .before .before .before .before .before .loop-test .left) _ _ (c .before .before .before .before .before .if2 .taken) (c .before .before .before .before .entry-in .ensures) (c .before .before .put-header .ensures))
+unfolding checkedIn bytesIn
+returns-2 c = let a = c .before .before .before .before .before .before .before .before .before .before .before .before .before .args in let look = find (namesIn (a .count) (a .table .now)) in let short = c .before .before .before .before .before .before .before .loop .inv .short in ((sym (ap (λ x. judgedAs x (length (bytesIn (a .width) (a .source .now) (a .table .now) (a .count)))) (walk-clean (c .before .before .before .before .before .before .before .before .before .before .before .before .before .args .width) (c .before .before .before .before .before .before .before .before .before .before .before .before .before .args .source .now) _ (c .before .before .before .before .before .before .before .before .before .before .before .before .before .args .writes) (c .before .before .before .before .before .before .before .before .before .before .before .before .before .args .out .now) _ _ _ (c .before .before .before .before .before .before .before .loop .left) (c .before .before .before .before .before .before .before .loop .at) (c .before .before .before .before .before .before .before .loop .k) (c .before .before .before .before .before .before .before .loop .to) (c .before .before .before .before .before .before .before .loop .inv) (c .before .before .before .before .before .before .loop-test .left)) ∙ ap Book (walk-size (c .before .before .before .before .before .before .before .before .before .before .before .before .before .args .width) (c .before .before .before .before .before .before .before .before .before .before .before .before .before .args .source .now) _ (c .before .before .before .before .before .before .before .before .before .before .before .before .before .args .writes) (c .before .before .before .before .before .before .before .before .before .before .before .before .before .args .out .now) _ _ _ (c .before .before .before .before .before .before .before .loop .left) (c .before .before .before .before .before .before .before .loop .at) (c .before .before .before .before .before .before .before .loop .k) (c .before .before .before .before .before .before .before .loop .to) (c .before .before .before .before .before .before .before .loop .inv) (c .before .before .before .before .before .before .loop-test .left))), omega arith), walk-header (c .before .before .before .before .before .before .before .before .before .before .before .before .before .args .width) (c .before .before .before .before .before .before .before .before .before .before .before .before .before .args .source .now) _ (c .before .before .before .before .before .before .before .before .before .before .before .before .before .args .writes) (c .before .before .before .before .before .before .before .before .before .before .before .before .before .args .out .now) _ _ _ (c .before .before .before .before .before .before .before .loop .left) (c .before .before .before .before .before .before .before .loop .at) (c .before .before .before .before .before .before .before .loop .k) (c .before .before .before .before .before .before .before .loop .to) (c .before .before .before .before .before .before .before .loop .inv) (c .before .before .before .before .before .before .loop-test .left) _ _ (c .before .before .before .before .before .if2 .taken) (c .before .before .before .before .entry-in .ensures) (c .before .before .put-header .ensures))
 
 -- src/lib.rt:48:1
 same-length-3 : tie.Need-same-length-3 Inv-loop μ-loop
@@ -134,7 +142,8 @@ same-length-3 c = c .before .before .loop .inv .same
 
 -- src/lib.rt:48:1
 returns-3 : tie.Need-returns-3 Inv-loop μ-loop
-returns-3 c = let a = c .before .before .before .before .before .before .before .before .args in let look = find (namesIn (a .count) (a .table .now)) in let short = c .before .before .loop .inv .short in ((sym (ap (λ x. judgedAs x (length (bookBytes (bookFrom look (cardsOf (a .width) (a .source .now)))))) (walk-clean (c .before .before .before .before .before .before .before .before .args .width) (c .before .before .before .before .before .before .before .before .args .source .now) _ (c .before .before .before .before .before .before .before .before .args .writes) (c .before .before .before .before .before .before .before .before .args .out .now) _ _ _ (c .before .before .loop .left) (c .before .before .loop .at) (c .before .before .loop .k) (c .before .before .loop .to) (c .before .before .loop .inv) (c .before .loop-test .left)) ∙ ap Book (walk-size (c .before .before .before .before .before .before .before .before .args .width) (c .before .before .before .before .before .before .before .before .args .source .now) _ (c .before .before .before .before .before .before .before .before .args .writes) (c .before .before .before .before .before .before .before .before .args .out .now) _ _ _ (c .before .before .loop .left) (c .before .before .loop .at) (c .before .before .loop .k) (c .before .before .loop .to) (c .before .before .loop .inv) (c .before .loop-test .left))), omega arith), walk-nothing (c .before .before .before .before .before .before .before .before .args .width) (c .before .before .before .before .before .before .before .before .args .source .now) _ (c .before .before .before .before .before .before .before .before .args .writes) (c .before .before .before .before .before .before .before .before .args .out .now) _ _ _ (c .before .before .loop .left) (c .before .before .loop .at) (c .before .before .loop .k) (c .before .before .loop .to) (c .before .before .loop .inv) (c .if2 .left))
+unfolding checkedIn bytesIn
+returns-3 c = let a = c .before .before .before .before .before .before .before .before .args in let look = find (namesIn (a .count) (a .table .now)) in let short = c .before .before .loop .inv .short in ((sym (ap (λ x. judgedAs x (length (bytesIn (a .width) (a .source .now) (a .table .now) (a .count)))) (walk-clean (c .before .before .before .before .before .before .before .before .args .width) (c .before .before .before .before .before .before .before .before .args .source .now) _ (c .before .before .before .before .before .before .before .before .args .writes) (c .before .before .before .before .before .before .before .before .args .out .now) _ _ _ (c .before .before .loop .left) (c .before .before .loop .at) (c .before .before .loop .k) (c .before .before .loop .to) (c .before .before .loop .inv) (c .before .loop-test .left)) ∙ ap Book (walk-size (c .before .before .before .before .before .before .before .before .args .width) (c .before .before .before .before .before .before .before .before .args .source .now) _ (c .before .before .before .before .before .before .before .before .args .writes) (c .before .before .before .before .before .before .before .before .args .out .now) _ _ _ (c .before .before .loop .left) (c .before .before .loop .at) (c .before .before .loop .k) (c .before .before .loop .to) (c .before .before .loop .inv) (c .before .loop-test .left))), omega arith), walk-nothing (c .before .before .before .before .before .before .before .before .args .width) (c .before .before .before .before .before .before .before .before .args .source .now) _ (c .before .before .before .before .before .before .before .before .args .writes) (c .before .before .before .before .before .before .before .before .args .out .now) _ _ _ (c .before .before .loop .left) (c .before .before .loop .at) (c .before .before .loop .k) (c .before .before .loop .to) (c .before .before .loop .inv) (c .if2 .left))
 
 pub run-two-spec : {M : Type 1} → statement M
 run-two-spec =
