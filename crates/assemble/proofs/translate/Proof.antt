@@ -1,30 +1,29 @@
 -- `translate` meets its contract: what pass one comes to, and what pass two makes of its names.
+-- `translate` meets its contract: what pass one comes to, and what pass two makes of its names.
+-- `translate` meets its contract: what pass one comes to, and what pass two makes of its names.
 use mathlib.Core.Path.{sym, ap, _∙_}
 use native.Mathlib.Omega.{arith}
 use Rattle.names.proofs.Table.{names-length}
 use Rattle.pass_one.specs.Code.{passedAs}
 use Rattle.assemble.proofs.Ways.{refused-one, passed-one, passed-fits}
+use Rattle.pass_two.specs.Code.{checkedIn}
 use borrow.Author.Needs.{needs}
 use Rattle.assemble.proofs.translate.Statement.{statement}
 use Rattle.assemble.proofs.translate.Tie as tie
-use Rattle.assemble.proofs.translate.Reads as reads
-use Rattle.assemble.proofs.translate.Lts as lts
-use Rattle.assemble.proofs.finish.Reads as finish-reads
-use Rattle.pass_one.proofs.run_one.Reads as run-one-reads
 
--- src/lib.rt:64:11
+-- src/lib.rt:63:11
 run-one-requires : tie.Need-run-one-requires
 run-one-requires c κs = search needs
 
--- src/lib.rt:65:28
+-- src/lib.rt:64:28
 enum-known-number : tie.Need-enum-known-number
 enum-known-number c = search needs
 
--- src/lib.rt:66:28
+-- src/lib.rt:65:28
 enum-known-p : tie.Need-enum-known-p
 enum-known-p c = search needs
 
--- src/lib.rt:66:34
+-- src/lib.rt:65:34
 finish-requires : tie.Need-finish-requires
 finish-requires c κs = let start = c .before .before .before .before .before .before .before .before .before .before .before .before .pre in
     let p = passed-fits _ _ (sym (ap (λ x. passedAs x (c .before .before .before .before .before .before .before .run-one .last .1 .1 .0)) (c .before .before .before .p .given .1)) ∙ c .before .before .before .before .before .before .before .run-one .ensures .0) in
@@ -33,26 +32,27 @@ finish-requires c κs = let start = c .before .before .before .before .before .b
     let kept = c .before .before .before .before .before .before .before .run-one .kept in
     ((start .0, p .0), (omega arith, p .1, omega arith))
 
--- src/lib.rt:58:1
+-- src/lib.rt:57:1
 same-length : tie.Need-same-length
 same-length c = search needs
 
--- src/lib.rt:58:1
+-- src/lib.rt:57:1
 returns : tie.Need-returns
 returns c = let a = c .before .before .before .before .before .before .before .before .before .before .args in
     let p = refused-one _ _ _ (a .work .now) (a .out .now) (sym (ap (λ x. passedAs x (c .before .before .before .before .before .run-one .last .1 .1 .0)) (c .before .number .given .1)) ∙ c .before .before .before .before .before .run-one .ensures .0) in
     (p .0, (c .before .before .before .before .before .run-one .ensures .1, p .1))
 
--- src/lib.rt:58:1
+-- src/lib.rt:57:1
 same-length-2 : tie.Need-same-length-2
 same-length-2 c = search needs
 
--- src/lib.rt:58:1
+-- src/lib.rt:57:1
 same-length-3 : tie.Need-same-length-3
 same-length-3 c = search needs
 
--- src/lib.rt:58:1
+-- src/lib.rt:57:1
 returns-2 : tie.Need-returns-2
+unfolding checkedIn
 returns-2 c = let a = c .before .before .before .before .before .before .before .before .before .before .before .before .before .before .before .args in
     let p = passed-one _ _ (a .work .now) _ _ _ _ (sym (ap (λ x. passedAs x (c .before .before .before .before .before .before .before .before .before .before .run-one .last .1 .1 .0)) (c .before .before .before .before .before .before .p .given .1)) ∙ c .before .before .before .before .before .before .before .before .before .before .run-one .ensures .0) (c .before .before .finish .ensures .0) (c .before .before .finish .ensures .1) in
     (p .0, (c .before .before .before .before .before .before .before .before .before .before .run-one .ensures .1, p .1))

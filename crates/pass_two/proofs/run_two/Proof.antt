@@ -50,7 +50,7 @@ div-left c = let w = source-whole (c .before .before .before .before .before .ar
 
 -- src/lib.rt:69:5
 loop-holds : tie.Need-loop-holds Inv-loop μ-loop
-loop-holds c = let a = c .before .before .before .before .before .args in let look = find (namesIn (a .count) (a .table .now)) in let w = source-whole (c .before .before .before .before .before .args .width) (length (c .before .before .before .before .before .args .source .now)) (c .before .before .before .before .before .pre .0 .0) in 
+loop-holds c = let a = c .before .before .before .before .before .args in let look = find (namesIn (a .count) (a .table .now)) in let w = source-whole (c .before .before .before .before .before .args .width) (length (c .before .before .before .before .before .args .source .now)) (c .before .before .before .before .before .pre .0 .0) in
     let all = cards-all (a .width) (a .source .now) in let n = w .cards in let few = w .few in
     rw (c .first-course .ensures) (record {
       whole = omega arith;
@@ -84,10 +84,11 @@ same-length c = c .before .before .before .before .loop .inv .same
 -- src/lib.rt:75:13
 returns : tie.Need-returns Inv-loop μ-loop
 unfolding checkedIn bytesIn
-returns c = let a = c .before .before .before .before .before .before .before .before .before .before .args in let look = find (namesIn (a .count) (a .table .now)) in 
-    let stop = walk-bad (c .before .before .before .before .before .before .before .before .before .before .args .width) (c .before .before .before .before .before .before .before .before .before .before .args .source .now) _ (c .before .before .before .before .before .before .before .before .before .before .args .writes) (c .before .before .before .before .before .before .before .before .before .before .args .out .now) _ _ _ (c .before .before .before .before .loop .left) (c .before .before .before .before .loop .at) (c .before .before .before .before .loop .k) (c .before .before .before .before .loop .to) (c .before .before .before .before .loop .inv) _ (card (c .before .before)) (c .before .before .before .loop-test .taken) _ (c .before .make-card .ensures) (c .if1 .taken) in
-    ((sym (ap (λ x. judgedAs x (length (bytesIn (a .width) (a .source .now) (a .table .now) (a .count)))) stop), omega arith),
-      walk-nothing (c .before .before .before .before .before .before .before .before .before .before .args .width) (c .before .before .before .before .before .before .before .before .before .before .args .source .now) _ (c .before .before .before .before .before .before .before .before .before .before .args .writes) (c .before .before .before .before .before .before .before .before .before .before .args .out .now) _ _ _ (c .before .before .before .before .loop .left) (c .before .before .before .before .loop .at) (c .before .before .before .before .loop .k) (c .before .before .before .before .loop .to) (c .before .before .before .before .loop .inv) (walk-stop (c .before .before .before .before .before .before .before .before .before .before .args .width) (c .before .before .before .before .before .before .before .before .before .before .args .source .now) _ (c .before .before .before .before .before .before .before .before .before .before .args .writes) (c .before .before .before .before .before .before .before .before .before .before .args .out .now) _ _ _ (c .before .before .before .before .loop .left) (c .before .before .before .before .loop .at) (c .before .before .before .before .loop .k) (c .before .before .before .before .loop .to) (c .before .before .before .before .loop .inv) _ _ stop (c .before .before .before .before .before .before .before .before .before .before .pre .1 .1)))
+returns c = let a = c .before .before .before .before .before .before .before .before .before .before .args in let look = find (namesIn (a .count) (a .table .now)) in
+    let stop = walk-bad (c .before .before .before .before .before .before .before .before .before .before .args .width) (c .before .before .before .before .before .before .before .before .before .before .args .source .now) _ (c .before .before .before .before .before .before .before .before .before .before .args .writes) (c .before .before .before .before .before .before .before .before .before .before .args .out .now) _ _ _ (c .before .before .before .before .loop .left) (c .before .before .before .before .loop .at) (c .before .before .before .before .loop .k) (c .before .before .before .before .loop .to) (c .before .before .before .before .loop .inv) _ (card (c .before .before)) (c .before .before .before .loop-test .taken) _ (c .before .make-card .ensures) (c .if1 .taken) in (
+      (sym (ap (λ x. judgedAs x (length (bytesIn (a .width) (a .source .now) (a .table .now) (a .count)))) stop), omega arith),
+      walk-nothing (c .before .before .before .before .before .before .before .before .before .before .args .width) (c .before .before .before .before .before .before .before .before .before .before .args .source .now) _ (c .before .before .before .before .before .before .before .before .before .before .args .writes) (c .before .before .before .before .before .before .before .before .before .before .args .out .now) _ _ _ (c .before .before .before .before .loop .left) (c .before .before .before .before .loop .at) (c .before .before .before .before .loop .k) (c .before .before .before .before .loop .to) (c .before .before .before .before .loop .inv) (walk-stop (c .before .before .before .before .before .before .before .before .before .before .args .width) (c .before .before .before .before .before .before .before .before .before .before .args .source .now) _ (c .before .before .before .before .before .before .before .before .before .before .args .writes) (c .before .before .before .before .before .before .before .before .before .before .args .out .now) _ _ _ (c .before .before .before .before .loop .left) (c .before .before .before .before .loop .at) (c .before .before .before .before .loop .k) (c .before .before .before .before .loop .to) (c .before .before .before .before .loop .inv) _ _ stop (c .before .before .before .before .before .before .before .before .before .before .pre .1 .1)),
+    )
 
 -- src/lib.rt:77:9
 put-made-requires : tie.Need-put-made-requires Inv-loop μ-loop

@@ -57,15 +57,17 @@ same-length c = search needs
 
 -- src/records.rt:89:1
 returns : tie.Need-returns
-returns c = let a = c .before .before .before .before .before .before .before .before .before .before .before .before .args in let f = c .before .before .before .before .before .before .before .before .before .before .before .before .pre .0 .0 in let o = part (a .s .now) (a .x .from) (a .x .end - a .x .from) in let size = c .before .before .before .before .before .before .before .before .before .text-length .ensures in
-    (long (a .x) (a .to) _ _ _ size (c .before .before .before .before .before .before .before .before .text-count .ensures) (c .before .before .before .before .before .before .before .record-length .ensures),
-      rw (c .before .before .before .before .before .before .if1 .taken) (c .before .before .put-record .ensures ∙ ap (sets (a .m .now) (a .to)) (sym (record-some (a .card) (a .address) (textPieces (a .x .text) o) (λ z. c .before .before .before .before .before .if2 .taken (size ∙ sym (length-is (a .x .text) o (f .text)) ∙ z))))))
+returns c = let a = c .before .before .before .before .before .before .before .before .before .before .before .before .args in let f = c .before .before .before .before .before .before .before .before .before .before .before .before .pre .0 .0 in let o = part (a .s .now) (a .x .from) (a .x .end - a .x .from) in let size = c .before .before .before .before .before .before .before .before .before .text-length .ensures in (
+  long (a .x) (a .to) _ _ _ size (c .before .before .before .before .before .before .before .before .text-count .ensures) (c .before .before .before .before .before .before .before .record-length .ensures),
+  rw (c .before .before .before .before .before .before .if1 .taken) (c .before .before .put-record .ensures ∙ ap (sets (a .m .now) (a .to)) (sym (record-some (a .card) (a .address) (textPieces (a .x .text) o) (λ z. c .before .before .before .before .before .if2 .taken (size ∙ sym (length-is (a .x .text) o (f .text)) ∙ z))))),
+)
 
 -- src/records.rt:89:1
 returns-2 : tie.Need-returns-2
-returns-2 c = let a = c .before .before .before .before .before .before .before .args in let f = c .before .before .before .before .before .before .before .pre .0 .0 in let o = part (a .s .now) (a .x .from) (a .x .end - a .x .from) in let size = c .before .before .before .before .text-length .ensures in
-    (long (a .x) (a .to) _ _ _ size (c .before .before .before .text-count .ensures) (c .before .before .record-length .ensures),
-      rw (c .before .if1 .taken) (ap (sets (a .m .now) (a .to)) (sym (record-none (a .card) (a .address) (textPieces (a .x .text) o) (length-is (a .x .text) o (f .text) ∙ sym size ∙ c .if2 .left)))))
+returns-2 c = let a = c .before .before .before .before .before .before .before .args in let f = c .before .before .before .before .before .before .before .pre .0 .0 in let o = part (a .s .now) (a .x .from) (a .x .end - a .x .from) in let size = c .before .before .before .before .text-length .ensures in (
+  long (a .x) (a .to) _ _ _ size (c .before .before .before .text-count .ensures) (c .before .before .record-length .ensures),
+  rw (c .before .if1 .taken) (ap (sets (a .m .now) (a .to)) (sym (record-none (a .card) (a .address) (textPieces (a .x .text) o) (length-is (a .x .text) o (f .text) ∙ sym size ∙ c .if2 .left)))),
+)
 
 -- src/records.rt:89:1
 returns-3 : tie.Need-returns-3
