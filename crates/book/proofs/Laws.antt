@@ -9,7 +9,7 @@ use lib.Dec.{leb}
 use borrow.Author.Tests.{lt-ltb, le-ltb, le-leb, lt-leb, eq-eqb, ne-eqb, leb-true}
 use Rattle.values.specs.Tests.{both}
 use Rattle.values.specs.Words.{part}
-use Rattle.values.proofs.Laws.{held, both-false, both-true, part-length}
+use Rattle.values.proofs.Laws.{clash, held, both-false, both-true, part-length}
 use Rattle.book.specs.declared.Step.{Step}
 use Rattle.book.specs.declared.Step.the-variants.{End, Broken}
 use Rattle.book.specs.Book.{Record, fieldsFit, fair, recordOk, restHead, recordHead, restAt, cardAt, addressAt, countAt, sizeAt, textAt, nextAt, recordAt}
@@ -98,7 +98,7 @@ module _ (last : ℕ) (r : Record) where
     where
       passed : (b : Bool) → fieldsFit 0 (length (r .text)) (r .fields) ≡ b → fieldsFit 0 (length (r .text)) (r .fields) ≡ true
       passed true h = h
-      passed false h = let q = unfair-fields h in let z : _≡_ {A = ℕ} 0 1 = cc in absurd (omega arith)
+      passed false h = let q = unfair-fields h in clash (cc)
 
 -- A RECORD AT A PLACE
 
@@ -165,7 +165,7 @@ module _ (s : List ℕ) (at last : ℕ) where
     where
       passed : (b : Bool) → fair last (recordAt s at) ≡ b → fair last (recordAt s at) ≡ true
       passed true h = h
-      passed false h = let q = by-record (λ _ _. h) in let z : _≡_ {A = ℕ} 0 1 = cc in absurd (omega arith)
+      passed false h = let q = by-record (λ _ _. h) in clash (cc)
 
   -- every test passed
   pub all-passed : nextAt s at ≤ length s → restHead + countAt s at < restAt s at → sizeAt s at ≤ 256 → last < cardAt s at → cardAt s at ≤ 4000

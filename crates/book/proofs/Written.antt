@@ -1,5 +1,5 @@
 -- Laws on what is written: how long it is, a header laid before records, and records each of which may follow the one before.
-use Prim.Native.Nat.{ℕ, zero, suc, _+_, _-_, _*_, _≤_, _<_}
+use Prim.Native.Nat.{ℕ, suc, _+_, _-_, _*_, _≤_, _<_}
 use mathlib.Core.List.{List, [], _∷_}
 use mathlib.Core.Path.{_≡_, refl, sym, ap, _∙_}
 use mathlib.Core.Bool.{Bool, true, false}
@@ -7,14 +7,14 @@ use mathlib.Core.Option.{Option, none, some}
 use native.Mathlib.Omega.{arith}
 use lib.ListN.{length, set, length-append}
 use lib.Seq.{sets, set-comm}
-use lib.Dec.{eqb}
 use Rattle.values.specs.Tests.{pick}
-use Rattle.values.proofs.Laws.{both-true, sets-append}
+use Rattle.values.proofs.Laws.{clash, both-true, sets-append}
 use Rattle.book.specs.declared.Entry.{Entry}
 use Rattle.book.specs.declared.Entry.the-variants.{Absent, At}
-use Rattle.book.specs.Book.{Record, Book, fair, recordHead, cardAt, nextAt, recordAt, recordOk, onto, recordsFrom, headerOk, entryAt, withEntry, bookOf}
+use Rattle.book.specs.Book.{Record, Book, fair, recordHead, recordAt, recordsFrom, headerOk, entryAt, withEntry, bookOf}
 use Rattle.book.specs.Writing.{recordBytes, recordsBytes, headerBytes, bookBytes, fairAll}
-use Rattle.book.proofs.Laws.{Fair, fair-is, is-fair, whole-is, fields-few}
+use Rattle.book.proofs.Laws.{Fair, fair-is, is-fair, fields-few}
+use Rattle.book.proofs.Turns.{by-records}
 
 -- LENGTHS
 
@@ -55,27 +55,17 @@ records-length (r ∷ rs) last e h =
 
 -- the records that were read are such
 from-fair : (n : ℕ) (s : List ℕ) (at last : ℕ) (rs : List Record) → recordsFrom n s at last ≡ some rs → fairAll last rs ≡ true
-unfolding recordsFrom fairAll
-from-fair zero s at last rs h = let z : _≡_ {A = ℕ} 0 1 = cc in absurd (omega arith)
-from-fair (suc n) s at last rs h = go (eqb at (length s)) (recordOk s at last) refl (recordsFrom n s (nextAt s at) (cardAt s at)) (from-fair n s (nextAt s at) (cardAt s at)) h
-  where
-    go : (x y : Bool) → recordOk s at last ≡ y → (o : Option (List Record)) → ((qs : List Record) → o ≡ some qs → fairAll (cardAt s at) qs ≡ true)
-        → pick x (some []) (pick y (onto (recordAt s at) o) none) ≡ some rs → fairAll last rs ≡ true
-    go true y f o ih h = let e : [] ≡ rs = cc in rw (← e)
-    go false true f none ih h = let z : _≡_ {A = ℕ} 0 1 = cc in absurd (omega arith)
-    go false true f (some qs) ih h =
-        let e : recordAt s at ∷ qs ≡ rs = cc in
-        rw (← e) (rw (is-fair last (recordAt s at) (whole-is s at last f .is)) (ih qs refl))
-    go false false f o ih h = let z : _≡_ {A = ℕ} 0 1 = cc in absurd (omega arith)
+unfolding fairAll
+from-fair n s = by-records s (λ at last rs. fairAll last rs ≡ true) (λ last. refl) (λ at last rest w ih. rw (is-fair last (recordAt s at) (w .is)) ih) n
 
 pub read-fair : (s : List ℕ) (b : Book) → bookOf s ≡ some b → fairAll 0 (b .records) ≡ true
 unfolding bookOf
 read-fair s b h = go (headerOk s) (recordsFrom (length s) s 8 0) refl h
   where
     go : (x : Bool) (o : Option (List Record)) → recordsFrom (length s) s 8 0 ≡ o → pick x (withEntry (entryAt s) o) none ≡ some b → fairAll 0 (b .records) ≡ true
-    go true none f h = let z : _≡_ {A = ℕ} 0 1 = cc in absurd (omega arith)
+    go true none f h = clash (cc)
     go true (some rs) f h = let e : rs ≡ b .records = cc in rw (← e) (from-fair (length s) s 8 0 rs f)
-    go false o f h = let z : _≡_ {A = ℕ} 0 1 = cc in absurd (omega arith)
+    go false o f h = clash (cc)
 
 -- A HEADER LAID BEFORE RECORDS THAT ARE THERE
 

@@ -9,13 +9,12 @@ use Rattle.values.proofs.Laws.{drop-turn}
 use Rattle.book.specs.Reading.{recordThere}
 use Rattle.fields.specs.Fields.{overIn, overField}
 use Rattle.book.proofs.Places.{fields-length}
-use Rattle.values.proofs.Sums.{moved-over, moved-to}
 use Rattle.fields.proofs.Laws.{over-here, over-later, over-none}
 use Rattle.fields.proofs.over_field.Statement.{statement}
 use Rattle.fields.proofs.over_field.Tie as tie
 
 abbrev Inv-loop : tie.InvT-loop
-Inv-loop book p d count i₀ i = (i ≤ count) × (overField (d .0) (recordThere book p) ≡ overIn (d .0) (recordThere book p .text) (drop i (recordThere book p .fields)))
+Inv-loop book p d count i₀ i = (i ≤ count) × (overField d (recordThere book p) ≡ overIn d (recordThere book p .text) (drop i (recordThere book p .fields)))
 
 abbrev μ-loop : tie.MeasureT-loop
 μ-loop book p d count i₀ i = count - i
@@ -43,7 +42,7 @@ enum-told c = search needs
 returns : tie.Need-returns Inv-loop μ-loop
 returns c =
     let a = c .before .before .before .before .before .before .before .args in let l = c .before .before .before .before .before .loop in let o = c .before .before .before .offset-at .result in let text = recordThere (a .book .now) (a .p) .text in
-    sym (l .inv .1 ∙ ap (λ os. overIn (a .d .0) text os) (left (c .before .before .before)) ∙ over-here (a .d .0) text o _ (moved-over (a .d) _ (sym (c .enum-told .given .1) ∙ c .before .before .moved-field .ensures)))
+    sym (l .inv .1 ∙ ap (λ os. overIn (a .d) text os) (left (c .before .before .before)) ∙ over-here (a .d) text o _ (sym (c .enum-told .given .1) ∙ c .before .before .moved-field .ensures))
 
 enum-told-2 : tie.Need-enum-told-2 Inv-loop μ-loop
 enum-told-2 c = search needs
@@ -57,13 +56,13 @@ loop-less c = omega arith
 loop-again : tie.Need-loop-again Inv-loop μ-loop
 loop-again c =
     let a = c .before .before .before .before .before .before .before .args in let l = c .before .before .before .before .before .loop in let o = c .before .before .before .offset-at .result in let text = recordThere (a .book .now) (a .p) .text in
-    (omega arith, l .inv .1 ∙ ap (λ os. overIn (a .d .0) text os) (left (c .before .before .before)) ∙ over-later (a .d .0) text o _ (moved-to (a .d) _ _ (sym (c .enum-told2 .given .1) ∙ c .before .before .moved-field .ensures) .1))
+    (omega arith, l .inv .1 ∙ ap (λ os. overIn (a .d) text os) (left (c .before .before .before)) ∙ over-later (a .d) text o _ _ (sym (c .enum-told2 .given .1) ∙ c .before .before .moved-field .ensures))
 
 returns-2 : tie.Need-returns-2 Inv-loop μ-loop
 returns-2 c =
     let a = c .before .before .before .args in let l = c .before .loop in let fields = recordThere (a .book .now) (a .p) .fields in
     let n = fields-length (a .book .now) (a .p) (c .before .before .before .pre) in
-    sym (l .inv .1 ∙ ap (λ os. overIn (a .d .0) (recordThere (a .book .now) (a .p) .text) os) (drop-of-length-le fields {i = l .i} (omega arith)) ∙ over-none (a .d .0) (recordThere (a .book .now) (a .p) .text))
+    sym (l .inv .1 ∙ ap (λ os. overIn (a .d) (recordThere (a .book .now) (a .p) .text) os) (drop-of-length-le fields {i = l .i} (omega arith)) ∙ over-none (a .d) (recordThere (a .book .now) (a .p) .text))
 
 pub over-field-spec : {M : Type 1} → statement M
 over-field-spec =

@@ -1,233 +1,25 @@
--- `shape_of` meets its contract, operation by operation.
+use denote.Ref.{now}
+use mathlib.Core.Path.{ap, _∙_}
+use Rattle.forms.specs.Shape.{shapeBy}
 use borrow.Author.Needs.{needs}
 use Rattle.forms.proofs.shape_of.Statement.{statement}
 use Rattle.forms.proofs.shape_of.Tie as tie
+use Rattle.forms.proofs.shape_of.Reads as reads
+use Rattle.forms.proofs.shape_of.Lts as lts
+use Rattle.forms.proofs.shape_by.Reads as shape-by-reads
+use Rattle.operations.proofs.traits.traits_of.Reads as traits-of-reads
 
-enum-told : tie.Need-enum-told
-enum-told c = search needs
+-- src/lib.rt:241:9
+traits-of-requires : tie.Need-traits-of-requires
+traits-of-requires c κs = search needs
 
-enum-told-2 : tie.Need-enum-told-2
-enum-told-2 c = search needs
+-- src/lib.rt:243:5
+shape-by-requires : tie.Need-shape-by-requires
+shape-by-requires c κs = search needs
 
-start-shape-requires : tie.Need-start-shape-requires
-start-shape-requires c κs = search needs
-
-enum-told-3 : tie.Need-enum-told-3
-enum-told-3 c = search needs
-
-last-at-requires : tie.Need-last-at-requires
-last-at-requires c κs = search needs
-
-enum-told-4 : tie.Need-enum-told-4
-enum-told-4 c = search needs
-
-last-at-requires-2 : tie.Need-last-at-requires-2
-last-at-requires-2 c κs = search needs
-
-enum-told-5 : tie.Need-enum-told-5
-enum-told-5 c = search needs
-
-constant-shape-requires : tie.Need-constant-shape-requires
-constant-shape-requires c κs = search needs
-
-enum-told-6 : tie.Need-enum-told-6
-enum-told-6 c = search needs
-
-reserve-shape-requires : tie.Need-reserve-shape-requires
-reserve-shape-requires c κs = search needs
-
-enum-told-7 : tie.Need-enum-told-7
-enum-told-7 c = search needs
-
-pair-shape-requires : tie.Need-pair-shape-requires
-pair-shape-requires c κs = search needs
-
-enum-told-8 : tie.Need-enum-told-8
-enum-told-8 c = search needs
-
-last-at-requires-3 : tie.Need-last-at-requires-3
-last-at-requires-3 c κs = search needs
-
-enum-told-9 : tie.Need-enum-told-9
-enum-told-9 c = search needs
-
-end-shape-requires : tie.Need-end-shape-requires
-end-shape-requires c κs = search needs
-
-enum-told-10 : tie.Need-enum-told-10
-enum-told-10 c = search needs
-
-two-shape-requires : tie.Need-two-shape-requires
-two-shape-requires c κs = search needs
-
-enum-told-11 : tie.Need-enum-told-11
-enum-told-11 c = search needs
-
-two-shape-requires-2 : tie.Need-two-shape-requires-2
-two-shape-requires-2 c κs = search needs
-
-enum-told-12 : tie.Need-enum-told-12
-enum-told-12 c = search needs
-
-two-shape-requires-3 : tie.Need-two-shape-requires-3
-two-shape-requires-3 c κs = search needs
-
-enum-told-13 : tie.Need-enum-told-13
-enum-told-13 c = search needs
-
-two-shape-requires-4 : tie.Need-two-shape-requires-4
-two-shape-requires-4 c κs = search needs
-
-enum-told-14 : tie.Need-enum-told-14
-enum-told-14 c = search needs
-
-one-shape-requires : tie.Need-one-shape-requires
-one-shape-requires c κs = search needs
-
-enum-told-15 : tie.Need-enum-told-15
-enum-told-15 c = search needs
-
-one-shape-requires-2 : tie.Need-one-shape-requires-2
-one-shape-requires-2 c κs = search needs
-
-enum-told-16 : tie.Need-enum-told-16
-enum-told-16 c = search needs
-
-one-shape-requires-3 : tie.Need-one-shape-requires-3
-one-shape-requires-3 c κs = search needs
-
-enum-told-17 : tie.Need-enum-told-17
-enum-told-17 c = search needs
-
-only-shape-requires : tie.Need-only-shape-requires
-only-shape-requires c κs = search needs
-
-enum-told-18 : tie.Need-enum-told-18
-enum-told-18 c = search needs
-
-pair-shape-requires-2 : tie.Need-pair-shape-requires-2
-pair-shape-requires-2 c κs = search needs
-
-enum-told-19 : tie.Need-enum-told-19
-enum-told-19 c = search needs
-
-last-at-requires-4 : tie.Need-last-at-requires-4
-last-at-requires-4 c κs = search needs
-
+-- src/lib.rt:238:1
 returns : tie.Need-returns
-returns c = rw (c .enum-told .given .1)
-
-returns-2 : tie.Need-returns-2
-returns-2 c = rw (c .before .enum-told2 .given .1) (c .start-shape .ensures)
-
-returns-3 : tie.Need-returns-3
-returns-3 c = rw (c .before .enum-told3 .given .1) (c .last-at .ensures)
-
-returns-4 : tie.Need-returns-4
-returns-4 c = rw (c .before .enum-told4 .given .1) (c .last-at2 .ensures)
-
-returns-5 : tie.Need-returns-5
-returns-5 c = rw (c .before .enum-told5 .given .1) (c .constant-shape .ensures)
-
-returns-6 : tie.Need-returns-6
-returns-6 c = rw (c .before .enum-told6 .given .1) (c .reserve-shape .ensures)
-
-returns-7 : tie.Need-returns-7
-returns-7 c = rw (c .before .enum-told7 .given .1) (c .pair-shape .ensures)
-
-returns-8 : tie.Need-returns-8
-returns-8 c = rw (c .before .enum-told8 .given .1) (c .last-at3 .ensures)
-
-returns-9 : tie.Need-returns-9
-returns-9 c = rw (c .before .enum-told9 .given .1) (c .end-shape .ensures)
-
-returns-10 : tie.Need-returns-10
-returns-10 c = rw (c .before .enum-told10 .given .1) (c .two-shape .ensures)
-
-returns-11 : tie.Need-returns-11
-returns-11 c = rw (c .before .enum-told11 .given .1) (c .two-shape2 .ensures)
-
-returns-12 : tie.Need-returns-12
-returns-12 c = rw (c .before .enum-told12 .given .1) (c .two-shape3 .ensures)
-
-returns-13 : tie.Need-returns-13
-returns-13 c = rw (c .before .enum-told13 .given .1) (c .two-shape4 .ensures)
-
-returns-14 : tie.Need-returns-14
-returns-14 c = rw (c .before .enum-told14 .given .1) (c .one-shape .ensures)
-
-returns-15 : tie.Need-returns-15
-returns-15 c = rw (c .before .enum-told15 .given .1) (c .one-shape2 .ensures)
-
-returns-16 : tie.Need-returns-16
-returns-16 c = rw (c .before .enum-told16 .given .1) (c .one-shape3 .ensures)
-
-returns-17 : tie.Need-returns-17
-returns-17 c = rw (c .before .enum-told17 .given .1) (c .only-shape .ensures)
-
-returns-18 : tie.Need-returns-18
-returns-18 c = rw (c .before .enum-told18 .given .1) (c .pair-shape2 .ensures)
-
-returns-19 : tie.Need-returns-19
-returns-19 c = rw (c .before .enum-told19 .given .1) (c .last-at4 .ensures)
+returns c = c .shape-by .ensures ∙ ap (λ t. shapeBy (t .pattern) (now (c .before .before .before .args .o))) (c .before .traits-of .ensures)
 
 pub shape-of-spec : {M : Type 1} → statement M
-shape-of-spec =
-    tie.close
-    (tie.spec
-    enum-told
-    enum-told-2
-    start-shape-requires
-    enum-told-3
-    last-at-requires
-    enum-told-4
-    last-at-requires-2
-    enum-told-5
-    constant-shape-requires
-    enum-told-6
-    reserve-shape-requires
-    enum-told-7
-    pair-shape-requires
-    enum-told-8
-    last-at-requires-3
-    enum-told-9
-    end-shape-requires
-    enum-told-10
-    two-shape-requires
-    enum-told-11
-    two-shape-requires-2
-    enum-told-12
-    two-shape-requires-3
-    enum-told-13
-    two-shape-requires-4
-    enum-told-14
-    one-shape-requires
-    enum-told-15
-    one-shape-requires-2
-    enum-told-16
-    one-shape-requires-3
-    enum-told-17
-    only-shape-requires
-    enum-told-18
-    pair-shape-requires-2
-    enum-told-19
-    last-at-requires-4
-    returns
-    returns-2
-    returns-3
-    returns-4
-    returns-5
-    returns-6
-    returns-7
-    returns-8
-    returns-9
-    returns-10
-    returns-11
-    returns-12
-    returns-13
-    returns-14
-    returns-15
-    returns-16
-    returns-17
-    returns-18
-    returns-19)
+shape-of-spec = tie.close (tie.spec traits-of-requires shape-by-requires returns)

@@ -13,8 +13,8 @@ use Rattle.values.proofs.Laws.{then}
 use Rattle.print.proofs.put_record.Statement.{statement}
 use Rattle.print.proofs.put_record.Tie as tie
 
-put-head-requires : tie.Need-put-head-requires
-put-head-requires c κs = search needs
+put-head-columns-requires : tie.Need-put-head-columns-requires
+put-head-columns-requires c κs = search needs
 
 put-offsets-requires : tie.Need-put-offsets-requires
 put-offsets-requires c κs = search needs
@@ -28,7 +28,7 @@ same-length c = search needs
 returns : tie.Need-returns
 returns c =
     let a = c .before .before .before .before .before .before .before .before .before .before .before .before .before .before .args in let s = a .book .now in let ok = c .before .before .before .before .before .before .before .before .before .before .before .before .before .before .pre .0 in
-    let h = c .before .before .before .before .before .before .before .before .before .before .put-head in let o = c .before .before .before .before .before .before .put-offsets in let t = c .before .before .put-text in
+    let h = c .before .before .before .before .before .before .before .before .before .before .put-head-columns in let o = c .before .before .before .before .before .before .put-offsets in let t = c .before .before .put-text in
     let h0 = h .ensures .0 in let o0 = o .ensures .0 in let t0 = t .ensures .0 in
     let l = head-length (a .p .count) (a .p .size) (a .p .card) (a .p .address .0) in
     let n = offsets-length (recordThere s (a .p) .fields) ∙ ap offsetsLength (fields-length s (a .p) ok) in (
@@ -41,4 +41,4 @@ returns c =
 pub put-record-spec : {M : Type 1} → statement M
 put-record-spec =
     tie.close
-    (tie.spec put-head-requires put-offsets-requires put-text-requires same-length returns)
+    (tie.spec put-head-columns-requires put-offsets-requires put-text-requires same-length returns)

@@ -5,7 +5,7 @@ use mathlib.Core.Path.{_≡_, refl, sym, ap, _∙_}
 use Rattle.book.specs.Book.{Record}
 use Rattle.book.specs.Reading.{stepAt, recordThere, recordsIn}
 use Rattle.book.specs.declared.Step.{Step}
-use Rattle.book.proofs.Turns.{Left, start, onward, first, ended, never, gave}
+use Rattle.book.proofs.Turns.{Left, start, onward, first, no-more, gave}
 use Rattle.print.specs.Print.{recordLine, recordLines, lineLength}
 use lib.ListN.{length, length-append}
 use Prim.Native.Nat.{_+_, _-_, _≤_}
@@ -32,24 +32,6 @@ loop-holds c = let (e, q) = c .before .before .before .pre .0 in rw (c .first .e
 
 next-requires : tie.Need-next-requires Inv-loop μ-loop
 next-requires c κs = search needs
-
-enum-told : tie.Need-enum-told Inv-loop μ-loop
-enum-told c = search needs
-
-same-length : tie.Need-same-length Inv-loop μ-loop
-same-length c = c .before .before .before .loop .inv .0
-
-returns : tie.Need-returns Inv-loop μ-loop
-returns c = absurd (never _ _ _ _ (c .before .before .before .loop .inv .1) (sym (c .enum-told .given .1) ∙ c .before .before .next .ensures))
-
-enum-told-2 : tie.Need-enum-told-2 Inv-loop μ-loop
-enum-told-2 c = search needs
-
-same-length-2 : tie.Need-same-length-2 Inv-loop μ-loop
-same-length-2 c = c .before .before .before .loop .inv .0
-
-returns-2 : tie.Need-returns-2 Inv-loop μ-loop
-returns-2 c = let l = c .before .before .before .loop in let (e, fits) = ended _ _ _ _ (l .inv .1) (sym (c .enum-told2 .given .1) ∙ c .before .before .next .ensures) in sym (e ∙ ap (λ vs. sets (l .m) (l .at) vs) lines-none)
 
 enum-known-p : tie.Need-enum-known-p Inv-loop μ-loop
 enum-known-p c = search needs
@@ -98,6 +80,12 @@ loop-again c =
           )),
     )
 
+same-length : tie.Need-same-length Inv-loop μ-loop
+same-length c = c .before .before .loop .inv .0
+
+returns : tie.Need-returns Inv-loop μ-loop
+returns c = let l = c .before .before .loop in let (e, fits) = no-more _ _ _ _ (l .inv .1) _ (c .match .keys2) (c .before .next .ensures) in sym (e ∙ ap (λ vs. sets (l .m) (l .at) vs) lines-none)
+
 pub put-records-spec : {M : Type 1} → statement M
 put-records-spec =
     tie.close
@@ -107,13 +95,9 @@ put-records-spec =
     first-requires
     loop-holds
     next-requires
-    enum-told
-    same-length
-    returns
-    enum-told-2
-    same-length-2
-    returns-2
     enum-known-p
     put-record-requires
     loop-less
-    loop-again)
+    loop-again
+    same-length
+    returns)

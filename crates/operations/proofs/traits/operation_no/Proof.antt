@@ -1,0 +1,24 @@
+use mathlib.Core.Path.{ap, _∙_, sym}
+use mathlib.Core.Bool.{true, false}
+use Rattle.values.specs.Tests.{pick}
+use borrow.Author.Needs.{needs}
+use Rattle.operations.proofs.traits.operation_no.Statement.{statement}
+use Rattle.operations.proofs.traits.operation_no.Tie as tie
+use Rattle.operations.proofs.traits.operation_no.Reads as reads
+use Rattle.operations.proofs.traits.operation_no.Lts as lts
+use Rattle.operations.proofs.traits.traits_of.Reads as traits-of-reads
+
+-- src/traits.rt:224:9
+traits-of-requires : tie.Need-traits-of-requires
+traits-of-requires c κs = search needs
+
+-- src/traits.rt:221:1
+returns : tie.Need-returns
+returns c = ap (λ b. pick b 0 12) (sym (c .if1 .taken) ∙ ap (λ t. t .known) (c .before .traits-of .ensures))
+
+-- src/traits.rt:221:1
+returns-2 : tie.Need-returns-2
+returns-2 c = ap (λ b. pick b 0 12) (sym (c .if1 .left) ∙ ap (λ t. t .known) (c .before .traits-of .ensures))
+
+pub operation-no-spec : {M : Type 1} → statement M
+operation-no-spec = tie.close (tie.spec traits-of-requires returns returns-2)
