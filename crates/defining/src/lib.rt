@@ -5,22 +5,22 @@ use forms::Shape;
 use forms::size_of;
 use lines::Line;
 use names::Name;
-use names::amount_of;
 use names::define;
 use operations::Operation;
-use passes::Role;
-use passes::start_value;
+use operations::traits::Role;
+use passes::start_or;
+use values::MaybeValue;
 use values::Relocatable;
 use values::Value;
-use values::words::wide16;
 ghost use mathlib.Core.Path.{_≡_};
 ghost use mathlib.Core.Bool.{true};
-ghost use Prim.Native.Nat.{_+_, _-_, _≤_, _<_};
+ghost use Prim.Native.Nat.{_+_, _-_, _≤_};
 ghost use lib.ListN.{length, drop};
 ghost use Rattle.names.specs.Names.{ascending};
-ghost use Rattle.names.specs.Table.{amountOf, namesIn};
-ghost use Rattle.passes.specs.Cards.{placeNamed, nameValueBy, nameLength};
-ghost use Rattle.defining.specs.Entering.{Enters, enteredBy};
+ghost use Rattle.names.specs.Table.{namesIn};
+ghost use Rattle.passes.specs.Cards.{placeNamed, nameValueBy, fieldLength, nameLengthBy};
+ghost use Rattle.passes.specs.One.{over};
+ghost use Rattle.defining.specs.Entering.{placeBy, Enters, enteredBy};
 
 fn one_less(n: usize) -> usize
     ensures { λ r. ⌜ r ≡ n - 1 ⌝ }
@@ -40,67 +40,59 @@ fn last_byte(counter: u32, m: u32) -> usize
 fn place_named(counter: u32, x: Shape) -> usize
     ensures { λ r. ⌜ r ≡ placeNamed counter x ⌝ }
 {
-    let at = counter as usize;
     match x {
-        Shape::Fails(_) => at,
-        Shape::Nothing => at,
-        Shape::StartAt(_) => at,
-        Shape::Expression => at,
-        Shape::Pair(_) => at,
-        Shape::Target => at,
-        Shape::Two(_, _) => at,
-        Shape::One(_, _) => at,
-        Shape::Only(_) => at,
-        Shape::Constant(d) => last_byte(counter, d.length),
-        Shape::Reserve(d) => last_byte(counter, d.length),
-    }
-}
-
-// The value of a line's name without its kind, before any limit; v is the value of its only expression.
-pub(crate) fn amount_named(role: Role, v: Value, counter: u32, l: Line) -> usize
-    ensures { λ r. ⌜ r ≡ amountOf (nameValueBy role v counter l) ⌝ }
-{
-    let shape = l.shape;
-    match role {
-        Role::Starts => wide16(start_value(shape)),
-        Role::Equates => wide16(amount_of(v)),
-        Role::Advances => place_named(counter, shape),
+        Shape::Data(d) => last_byte(counter, d.length),
         _ => counter as usize,
     }
 }
 
-// The value of a line's name, where it is in range.
-fn name_value(role: Role, v: Value, counter: u32, l: Line) -> Value
-    requires { ⌜ amountOf (nameValueBy role v counter l) < 65536 ⌝ }
-    ensures { λ r. ⌜ r ≡ nameValueBy role v counter l ⌝ }
+// The place that a line's name stands for, before any limit; EQU's stands for none.
+pub(crate) fn place_by(role: Role, counter: u32, x: Shape) -> usize
+    ensures { λ r. ⌜ r ≡ placeBy role counter x ⌝ }
 {
-    let place = amount_named(role, v, counter, l) as u16;
     match role {
-        Role::Equates => v,
-        _ => Value::Relocatable(Relocatable(place)),
+        Role::Starts => start_or(x, counter) as usize,
+        Role::Advances => place_named(counter, x),
+        _ => counter as usize,
     }
 }
 
-fn name_length(op: Operation, x: Shape) -> usize
-    ensures { λ r. ⌜ r ≡ nameLength op x ⌝ }
+// The value of a line's name, where it is in range; v is the value of its only expression.
+fn name_value(role: Role, v: MaybeValue, counter: u32, l: Line) -> MaybeValue
+    requires { ⌜ over (nameValueBy role v counter l) ≡ 0 ⌝ }
+    ensures { λ r. ⌜ r ≡ nameValueBy role v counter l ⌝ }
+{
+    let shape = l.shape;
+    match role {
+        Role::Equates => v,
+        _ => {
+            let place = place_by(role, counter, shape) as u16;
+            MaybeValue::Is(Value::Relocatable(Relocatable(place)))
+        }
+    }
+}
+
+// The length of a field, or an instruction's.
+fn field_length(op: Operation, x: Shape) -> usize
+    ensures { λ r. ⌜ r ≡ fieldLength op x ⌝ }
 {
     match x {
-        Shape::Fails(_) => 1,
-        Shape::Nothing => 1,
-        Shape::StartAt(_) => 1,
-        Shape::Expression => 1,
-        Shape::Pair(_) => size_of(op, x),
-        Shape::Target => size_of(op, x),
-        Shape::Two(_, _) => size_of(op, x),
-        Shape::One(_, _) => size_of(op, x),
-        Shape::Only(_) => size_of(op, x),
-        Shape::Constant(d) => d.length as usize,
-        Shape::Reserve(d) => d.length as usize,
+        Shape::Data(d) => d.length as usize,
+        _ => size_of(op, x),
+    }
+}
+
+fn name_length(role: Role, op: Operation, x: Shape) -> usize
+    ensures { λ r. ⌜ r ≡ nameLengthBy role op x ⌝ }
+{
+    match role {
+        Role::Advances => field_length(op, x),
+        _ => 1,
     }
 }
 
 // A line's name goes into the table, where it has one; how many names there are then.
-pub fn enter(role: Role, v: Value, counter: u32, l: Line, table: &mut [u8], count: usize) -> usize
+pub fn enter(role: Role, v: MaybeValue, counter: u32, l: Line, table: &mut [u8], count: usize) -> usize
     requires { ⌜ (8192 ≤ length (now table)) × (ascending (namesIn count (now table)) ≡ true) × (count ≤ 512) ⌝ }
     requires { ⌜ Enters (namesIn count (now table)) role v counter l ⌝ }
     ensures { λ r. ⌜ (namesIn r (now (table .exit)) ≡ enteredBy (namesIn count (now (table .entry))) role v counter l) × (r ≤ 512) ⌝ }
@@ -112,16 +104,20 @@ pub fn enter(role: Role, v: Value, counter: u32, l: Line, table: &mut [u8], coun
     }
     let operation = l.operation;
     let shape = l.shape;
-    let value = name_value(role, v, counter, l);
-    let length = name_length(operation, shape) as u16;
-    define(
-        table,
-        count,
-        Name {
-            number: number,
-            value: value,
-            length: length,
-        },
-    );
-    count + 1
+    let length = name_length(role, operation, shape) as u16;
+    match name_value(role, v, counter, l) {
+        MaybeValue::Nothing => count,
+        MaybeValue::Is(value) => {
+            define(
+                table,
+                count,
+                Name {
+                    number: number,
+                    value: value,
+                    length: length,
+                },
+            );
+            count + 1
+        }
+    }
 }

@@ -1,21 +1,23 @@
 // Pass one's rules, one by one; 0 is no refusal.
-use crate::amount_named;
-use data::sizes::constant_no;
+use crate::place_by;
+use data::sizes::data_no;
 use data::sizes::length_fits;
-use data::sizes::reserve_no;
 use forms::Shape;
 use lines::Line;
 use names::name_refusal;
+use operations::traits::Role;
 use passes::Phase;
-use passes::Role;
-use values::Value;
+use values::MaybeValue;
+use values::amount_of;
+use values::words::wide16;
 ghost use mathlib.Core.Path.{_≡_};
 ghost use mathlib.Core.Bool.{true};
 ghost use Prim.Native.Nat.{_*_, _≤_};
 ghost use lib.ListN.{length};
 ghost use Rattle.names.specs.Names.{ascending, nameRefusal};
 ghost use Rattle.names.specs.Table.{namesIn};
-ghost use Rattle.passes.specs.One.{afterEndNo, againNo, missingNo, startNo, mostNames, ifNamed, mFits, dataNo, roomNo};
+ghost use Rattle.passes.specs.Cards.{nameValueBy};
+ghost use Rattle.passes.specs.One.{afterEndNo, againNo, missingNo, startNo, mostNames, ifNamed, mFits, amountOver, over, sizesNo, roomNo};
 ghost use Rattle.defining.specs.Entering.{overBy};
 
 // 9: a card after END.
@@ -73,22 +75,38 @@ fn m_fits(x: Shape) -> bool
     ensures { λ r. ⌜ r ≡ mFits x ⌝ }
 {
     match x {
-        Shape::Fails(_) => true,
-        Shape::Nothing => true,
-        Shape::StartAt(_) => true,
-        Shape::Expression => true,
-        Shape::Pair(_) => true,
-        Shape::Target => true,
-        Shape::Two(_, _) => true,
-        Shape::One(_, _) => true,
-        Shape::Only(_) => true,
-        Shape::Constant(d) => length_fits(d),
-        Shape::Reserve(d) => length_fits(d),
+        Shape::Data(d) => length_fits(d),
+        _ => true,
+    }
+}
+
+fn amount_over(n: usize) -> u8
+    ensures { λ r. ⌜ r ≡ amountOver n ⌝ }
+{
+    if n <= 65535 { 0 } else { 20 }
+}
+
+fn value_over(v: MaybeValue) -> u8
+    ensures { λ r. ⌜ r ≡ over v ⌝ }
+{
+    match v {
+        MaybeValue::Is(x) => amount_over(wide16(amount_of(x))),
+        MaybeValue::Nothing => 0,
+    }
+}
+
+fn over_by(r: Role, v: MaybeValue, counter: u32, l: Line) -> u8
+    ensures { λ n. ⌜ n ≡ over (nameValueBy r v counter l) ⌝ }
+{
+    let shape = l.shape;
+    match r {
+        Role::Equates => value_over(v),
+        _ => amount_over(place_by(r, counter, shape)),
     }
 }
 
 // 20 of a name whose value is over 65535, not where m is out of range.
-pub fn over_no(r: Role, v: Value, counter: u32, l: Line) -> u8
+pub fn over_no(r: Role, v: MaybeValue, counter: u32, l: Line) -> u8
     ensures { λ n. ⌜ n ≡ ifNamed (l .name) (overBy r v counter l) ⌝ }
 {
     let shape = l.shape;
@@ -98,29 +116,16 @@ pub fn over_no(r: Role, v: Value, counter: u32, l: Line) -> u8
     if !m_fits(shape) {
         return 0;
     }
-    if amount_named(r, v, counter, l) <= 65535 {
-        0
-    } else {
-        20
-    }
+    over_by(r, v, counter, l)
 }
 
 // 21 of DC and DS.
-pub fn data_no(x: Shape) -> u8
-    ensures { λ r. ⌜ r ≡ dataNo x ⌝ }
+pub fn sizes_no(x: Shape) -> u8
+    ensures { λ r. ⌜ r ≡ sizesNo x ⌝ }
 {
     match x {
-        Shape::Fails(_) => 0,
-        Shape::Nothing => 0,
-        Shape::StartAt(_) => 0,
-        Shape::Expression => 0,
-        Shape::Pair(_) => 0,
-        Shape::Target => 0,
-        Shape::Two(_, _) => 0,
-        Shape::One(_, _) => 0,
-        Shape::Only(_) => 0,
-        Shape::Constant(d) => constant_no(d),
-        Shape::Reserve(d) => reserve_no(d),
+        Shape::Data(d) => data_no(d),
+        _ => 0,
     }
 }
 

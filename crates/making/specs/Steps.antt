@@ -5,30 +5,33 @@ use mathlib.Core.Path.{_≡_}
 use mathlib.Core.Bool.{Bool, true, false}
 use lib.ListN.{length}
 use Rattle.values.specs.Words.{part}
-use Rattle.values.specs.declared.Value.{Value}
-use Rattle.names.specs.declared.Entry.{Entry}
-use Rattle.book.specs.declared.Entry.{Entry as BookEntry}
+use Rattle.values.specs.declared.MaybeValue.{MaybeValue}
+use Rattle.names.specs.declared.Meaning.{Meaning}
+use Rattle.book.specs.declared.Entry.{Entry}
 use Rattle.statements.specs.declared.Statement.{Statement as Stated}
 use Rattle.book.specs.Writing.{recordBytes, recordLength}
 use Rattle.data.specs.declared.DataType.{DataType}
 use Rattle.data.specs.declared.DataType.the-variants.{Characters, Hexadecimal, Decimal, Address}
+use Rattle.data.specs.declared.DataCard.{DataCard}
+use Rattle.data.specs.declared.DataCard.the-variants.{Constant, Reserve}
 use Rattle.data.specs.declared.Data.{Data}
 use Rattle.data.specs.Sizes.{dataSize, constantNo}
 use Rattle.data.specs.Text.{constantText}
 use Rattle.forms.specs.declared.Shape.{Shape}
-use Rattle.forms.specs.declared.Shape.the-variants.{Fails, Nothing, StartAt, Expression, Pair, Target, Two, One, Only, Constant, Reserve}
-use Rattle.statements.specs.declared.operands.Operands.{Operands}
-use Rattle.statements.specs.Statements.{numberOf, statementFrom, basesAfter, loneValue}
+use Rattle.forms.specs.Shape.{ofData}
+use Rattle.operands.specs.declared.Operands.{Operands}
+use Rattle.statements.specs.Statements.{statementNo, statementFrom, basesAfter, loneValue}
 use Rattle.encode.specs.Pieces.{Piece, textOf, fieldsOf, piecesOf}
 use Rattle.encode.specs.Pieces.Piece.{plain}
 use Rattle.lines.specs.declared.Line.{Line}
 use Rattle.lines.specs.declared.Reading.{Reading}
 use Rattle.lines.specs.declared.Reading.the-variants.{Comment, BadName, Statement}
 use Rattle.lines.specs.Lines.{readingOf}
-use Rattle.passes.specs.declared.Role.{Role}
-use Rattle.passes.specs.declared.Role.the-variants.{Starts, Equates, SetsCounter, Ends, Advances}
+use Rattle.operations.specs.declared.traits.Role.{Role}
+use Rattle.operations.specs.declared.traits.Role.the-variants.{Starts, Equates, SetsCounter, Ends, Advances}
 use Rattle.passes.specs.declared.Course.{Course}
-use Rattle.passes.specs.Cards.{roleOf, operandsAt, counterBy}
+use Rattle.operations.specs.Traits.{roleOf}
+use Rattle.passes.specs.Cards.{operandsAt, counterBy}
 use Rattle.passes.specs.Two.{recordOfPieces, entryBy}
 use Rattle.making.specs.declared.Text.{Text}
 use Rattle.making.specs.declared.Sought.{Sought}
@@ -38,7 +41,7 @@ use Rattle.making.specs.declared.Made.{Made}
 -- WHAT A CARD MAKES
 
 -- behind a line whose expressions came to x, and its only expression to v
-abbrev pub courseBy : Course → Line → Operands → Value → Course
+abbrev pub courseBy : Course → Line → Operands → MaybeValue → Course
 courseBy c l x v = record {
   counter = counterBy (roleOf (l .operation)) v (c .counter) l;
   bases = basesAfter (l .operation) x (c .bases);
@@ -51,18 +54,13 @@ textBy Hexadecimal d st = Text.Columns d
 textBy Decimal d st = Text.Columns d
 textBy Address d st = Text.Stated st
 
+-- DS makes none
+abbrev pub textOfData : DataCard → Data → Stated → Text
+textOfData Constant d st = textBy (d .kind) d st
+textOfData Reserve d st = Text.Stated Stated.None
+
 abbrev pub textFrom : Shape → Stated → Text
-textFrom (Fails q) st = Text.Stated st
-textFrom Nothing st = Text.Stated st
-textFrom (StartAt v) st = Text.Stated st
-textFrom Expression st = Text.Stated st
-textFrom (Pair p) st = Text.Stated st
-textFrom Target st = Text.Stated st
-textFrom (Two a b) st = Text.Stated st
-textFrom (One a p) st = Text.Stated st
-textFrom (Only a) st = Text.Stated st
-textFrom (Constant d) st = textBy (d .kind) d st
-textFrom (Reserve d) st = Text.Stated st
+textFrom x st = ofData x (λ d. textOfData (d .card) d st) (Text.Stated st)
 
 -- the pieces of a text, over the columns of the operand
 abbrev pub textPieces : Text → List ℕ → List Piece
@@ -70,11 +68,11 @@ textPieces (Text.Columns d) o = map plain (constantText o d)
 textPieces (Text.Stated st) o = piecesOf st
 
 -- the entry where END was met, else another
-abbrev pub entryOr : Sought → BookEntry → BookEntry
+abbrev pub entryOr : Sought → Entry → Entry
 entryOr Open rest = rest
 entryOr (Found e) rest = e
 
-abbrev pub soughtBy : Role → Value → Sought
+abbrev pub soughtBy : Role → MaybeValue → Sought
 soughtBy Starts v = Open
 soughtBy Equates v = Open
 soughtBy SetsCounter v = Open
@@ -91,7 +89,7 @@ madeNone c = record { number = 0; text = Text.Stated Stated.None; from = 0; end 
 
 abbrev pub madeBy : Course → Line → Operands → Made
 madeBy c l x = record {
-  number = numberOf (l .operation) x (c .counter) (c .bases);
+  number = statementNo (l .operation) x (c .counter) (c .bases);
   text = textFrom (l .shape) (statementFrom (l .operation) x (c .counter) (c .bases));
   from = l .operand;
   end = l .end;
@@ -99,12 +97,12 @@ madeBy c l x = record {
   course = courseBy c l x (loneValue x);
 }
 
-abbrev pub readingMade : (ℕ → Entry) → Course → List ℕ → Reading → Made
+abbrev pub readingMade : (ℕ → Meaning) → Course → List ℕ → Reading → Made
 readingMade look c s Comment = madeNone c
 readingMade look c s BadName = madeNone c
 readingMade look c s (Statement l) = madeBy c l (operandsAt look (c .counter) s l)
 
-unfoldable pub cardMade : (ℕ → Entry) → Course → List ℕ → Made
+unfoldable pub cardMade : (ℕ → Meaning) → Course → List ℕ → Made
 cardMade look c s = readingMade look c s (readingOf s)
 
 -- SIZES

@@ -3,23 +3,26 @@ pub mod records;
 
 use book::Entry;
 use data::Data;
+use data::DataCard;
 use data::DataType;
 use forms::Shape;
 use lines::Line;
 use lines::Reading;
 use lines::read_line;
+use operands::Operands;
+use operations::traits::Role;
+use operations::traits::role_of;
 use passes::Course;
-use passes::Role;
 use passes::counter_by;
 use passes::operands_at;
-use passes::role_of;
 use statements::Statement;
 use statements::bases_after;
 use statements::lone_value;
-use statements::number_of;
-use statements::operands::Operands;
 use statements::statement_from;
-use values::Value;
+use statements::statement_no;
+use values::MaybeRelocatable;
+use values::MaybeValue;
+use values::only_relocatable;
 ghost use mathlib.Core.Path.{_≡_};
 ghost use mathlib.Core.Bool.{true};
 ghost use Prim.Native.Nat.{_+_, _*_, _^_, _≤_, _<_};
@@ -32,7 +35,7 @@ ghost use Rattle.lines.specs.Lines.{readingOf};
 ghost use Rattle.passes.specs.Sound.{soundReading};
 ghost use Rattle.passes.specs.Two.{entryBy};
 ghost use Rattle.book.specs.declared.Entry.the-variants.{Absent};
-ghost use Rattle.making.specs.Steps.{courseBy, textBy, textFrom, entryOr, soughtBy, firstOf, readingMade, madeNone, cardMade};
+ghost use Rattle.making.specs.Steps.{courseBy, textBy, textOfData, textFrom, entryOr, soughtBy, firstOf, readingMade, madeNone, cardMade};
 
 // The columns of a constant of type C, X or D, or a statement.
 pub enum Text {
@@ -57,7 +60,7 @@ pub struct Made {
 }
 
 // Where pass two stands behind a line whose expressions came to x, and its only expression to v.
-fn course_after(c: Course, l: Line, x: Operands, v: Value) -> Course
+fn course_after(c: Course, l: Line, x: Operands, v: MaybeValue) -> Course
     requires { ⌜ c .counter + sizeOf (l .operation) (l .shape) < 2 ^ 32 ⌝ }
     ensures { λ r. ⌜ r ≡ courseBy c l x v ⌝ }
 {
@@ -80,29 +83,38 @@ fn text_by(kind: DataType, d: Data, st: Statement) -> Text
     }
 }
 
+// Of a data card: DS makes none.
+fn text_of(d: Data, st: Statement) -> Text
+    ensures { λ r. ⌜ r ≡ textOfData (d .card) d st ⌝ }
+{
+    let card = d.card;
+    let kind = d.kind;
+    match card {
+        DataCard::Constant => text_by(kind, d, st),
+        DataCard::Reserve => Text::Stated(Statement::None),
+    }
+}
+
 // Where the text of a line comes from.
 fn text_from(shape: Shape, st: Statement) -> Text
     ensures { λ r. ⌜ r ≡ textFrom shape st ⌝ }
 {
     match shape {
-        Shape::Constant(d) => {
-            let kind = d.kind;
-            text_by(kind, d, st)
-        }
+        Shape::Data(d) => text_of(d, st),
         _ => Text::Stated(st),
     }
 }
 
-fn entry_by(v: Value) -> Entry
+fn entry_by(v: MaybeValue) -> Entry
     ensures { λ r. ⌜ r ≡ entryBy v ⌝ }
 {
-    match v {
-        Value::Absolute(_) => Entry::Absent,
-        Value::Relocatable(a) => Entry::At(a),
+    match only_relocatable(v) {
+        MaybeRelocatable::Is(a) => Entry::At(a),
+        MaybeRelocatable::Nothing => Entry::Absent,
     }
 }
 
-fn sought_by(role: Role, v: Value) -> Sought
+fn sought_by(role: Role, v: MaybeValue) -> Sought
     ensures { λ r. ⌜ r ≡ soughtBy role v ⌝ }
 {
     match role {
@@ -141,7 +153,7 @@ fn make_line(c: Course, l: Line, card: &[u8], table: &[u8], count: usize) -> Mad
     let counter = c.counter;
     let bases = c.bases;
     let x = operands_at(l, card, table, count, counter);
-    let number = number_of(operation, x, counter, bases);
+    let number = statement_no(operation, x, counter, bases);
     let text = text_from(shape, statement_from(operation, x, counter, bases));
     let v = lone_value(x);
     let entry = sought_by(role_of(operation), v);

@@ -4,24 +4,24 @@ use mathlib.Core.List.{List}
 use mathlib.Core.Path.{_≡_}
 use mathlib.Core.Bool.{true}
 use Rattle.values.specs.Tests.{orElse}
-use Rattle.values.specs.declared.Value.the-variants.{Absolute}
-use Rattle.names.specs.declared.Entry.{Entry}
+use Rattle.values.specs.declared.MaybeValue.the-variants.{Nothing}
+use Rattle.names.specs.declared.Meaning.{Meaning}
 use Rattle.names.specs.Names.{ascending, nameRefusal}
 use Rattle.names.specs.Table.{namesIn}
 use Rattle.operations.specs.declared.Operation.{Operation}
-use Rattle.operations.specs.Codes.{operationNo, nameNo}
+use Rattle.operations.specs.Traits.{roleOf, operationNo, nameNo}
 use Rattle.forms.specs.Size.{sizeOf}
-use Rattle.statements.specs.declared.operands.Operands.{Operands}
-use Rattle.statements.specs.Kinds.{expressionsNo}
+use Rattle.operands.specs.declared.Operands.{Operands}
+use Rattle.operands.specs.Kinds.{expressionsNo}
 use Rattle.statements.specs.Statements.{loneValue}
 use Rattle.lines.specs.declared.Line.{Line}
 use Rattle.lines.specs.declared.Reading.{Reading}
 use Rattle.lines.specs.declared.Reading.the-variants.{Comment, BadName, Statement}
 use Rattle.lines.specs.Lines.{shapeNo}
-use Rattle.passes.specs.declared.Role.{Role}
-use Rattle.passes.specs.declared.Role.the-variants.{Starts, Equates, SetsCounter, Ends, Advances}
-use Rattle.passes.specs.Cards.{roleOf, operandsAt, counterBy}
-use Rattle.passes.specs.One.{State, Passed, startNo, mostNames, ifNamed, dataNo, roomNo, phaseAfter}
+use Rattle.operations.specs.declared.traits.Role.{Role}
+use Rattle.operations.specs.declared.traits.Role.the-variants.{Starts, Equates, SetsCounter, Ends, Advances}
+use Rattle.passes.specs.Cards.{operandsAt, counterBy}
+use Rattle.passes.specs.One.{State, Passed, startNo, mostNames, ifNamed, sizesNo, roomNo, phaseAfter}
 use Rattle.passes.specs.One.Passed.{through, stopped}
 use Rattle.defining.specs.Entering.{overBy, enteredBy}
 use Rattle.pass_one.specs.declared.Pass.{Pass}
@@ -46,7 +46,7 @@ passedAs (Stopped number card) t = stopped number card
 -- WHAT PASS ONE LOOKS AT OF AN OPERAND: EQU's and ORG's; of the other cards none
 
 abbrev pub noEarly : Early
-noEarly = record { number = 0; value = Absolute (record { 0 = 0 }) }
+noEarly = record { number = 0; value = Nothing }
 
 abbrev pub earlyOf : Operation → Operands → Early
 earlyOf op x = record { number = expressionsNo op x; value = loneValue x }
@@ -58,10 +58,10 @@ earlyFrom SetsCounter op x = earlyOf op x
 earlyFrom Ends op x = noEarly
 earlyFrom Advances op x = noEarly
 
-abbrev pub earlyLine : (ℕ → Entry) → ℕ → List ℕ → Line → Early
+abbrev pub earlyLine : (ℕ → Meaning) → ℕ → List ℕ → Line → Early
 earlyLine look counter s l = earlyFrom (roleOf (l .operation)) (l .operation) (operandsAt look counter s l)
 
-abbrev pub earlyIn : (ℕ → Entry) → ℕ → List ℕ → Reading → Early
+abbrev pub earlyIn : (ℕ → Meaning) → ℕ → List ℕ → Reading → Early
 earlyIn look counter s Comment = noEarly
 earlyIn look counter s BadName = noEarly
 earlyIn look counter s (Statement l) = earlyLine look counter s l
@@ -74,7 +74,7 @@ valueBy st l e =
     orElse (ifNamed (l .name) (nameRefusal mostNames (st .names) (l .name)))
     (orElse (e .number)
     (orElse (ifNamed (l .name) (overBy (roleOf (l .operation)) (e .value) (st .counter) l))
-    (orElse (dataNo (l .shape)) (roomNo (st .counter) (sizeOf (l .operation) (l .shape))))))
+    (orElse (sizesNo (l .shape)) (roomNo (st .counter) (sizeOf (l .operation) (l .shape))))))
 
 -- 12 to 15 before them
 unfoldable pub lineBy : State → Line → Early → ℕ

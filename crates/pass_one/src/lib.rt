@@ -4,29 +4,28 @@ use cards::source::card_at;
 use cards::source::columns_of;
 use defining::enter;
 use defining::refusals::after_end_no;
-use defining::refusals::data_no;
 use defining::refusals::new_no;
 use defining::refusals::over_no;
 use defining::refusals::room_no;
+use defining::refusals::sizes_no;
 use defining::refusals::start_no;
 use forms::size_of;
 use lines::Line;
 use lines::Reading;
 use lines::read_line;
 use lines::shape_no;
+use operands::Operands;
+use operands::kinds::expressions_no;
 use operations::Operation;
-use operations::codes::name_no;
-use operations::codes::operation_no;
+use operations::traits::Role;
+use operations::traits::name_no;
+use operations::traits::operation_no;
+use operations::traits::role_of;
 use passes::Phase;
-use passes::Role;
 use passes::counter_by;
 use passes::operands_at;
-use passes::role_of;
-use statements::kinds::expressions_no;
 use statements::lone_value;
-use statements::operands::Operands;
-use values::Absolute;
-use values::Value;
+use values::MaybeValue;
 use values::numbers::or_else;
 ghost use mathlib.Core.Path.{_≡_};
 ghost use mathlib.Core.Bool.{true};
@@ -55,7 +54,7 @@ pub enum PassedOne {
 // What pass one looks at of an operand, EQU's or ORG's: its refusal, or 0, and its value. Of the other cards it looks at none.
 pub struct Early {
     pub number: u8,
-    pub value: Value,
+    pub value: MaybeValue,
 }
 
 fn no_early() -> Early
@@ -63,7 +62,7 @@ fn no_early() -> Early
 {
     Early {
         number: 0,
-        value: Value::Absolute(Absolute(0)),
+        value: MaybeValue::Nothing,
     }
 }
 
@@ -112,7 +111,7 @@ fn value_no(p: Pass, l: Line, e: Early, table: &[u8]) -> u8
     let v = e.value;
     let new = new_no(l.name, table, p.count);
     let over = over_no(role_of(operation), v, p.counter, l);
-    let sizes = data_no(shape);
+    let sizes = sizes_no(shape);
     let room = room_no(p.counter, size_of(operation, shape));
     or_else(new, or_else(e.number, or_else(over, or_else(sizes, room))))
 }
