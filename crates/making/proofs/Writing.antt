@@ -5,8 +5,9 @@ use mathlib.Core.Path.{_≡_, refl, sym, ap, _∙_}
 use native.Mathlib.Omega.{arith}
 use lib.ListN.{length}
 use borrow.Author.Tests.{eq-eqb, ne-eqb}
+use Rattle.values.proofs.Laws.{clash}
 use Rattle.values.specs.Words.{part}
-use Rattle.names.specs.declared.Entry.{Entry}
+use Rattle.names.specs.declared.Meaning.{Meaning}
 use Rattle.statements.specs.declared.Statement.{Statement as Stated}
 use Rattle.book.specs.Book.{Record, restHead}
 use Rattle.book.specs.Writing.{headBytes, recordBytes, recordLength, recordsBytes}
@@ -24,7 +25,7 @@ use Rattle.making.specs.Steps.{textPieces, cardMade, textLength, textFie
 use Rattle.making.proofs.Cards.{made-pieces}
 
 -- the pieces of a card are those of the text that it makes
-made-are : (look : ℕ → Entry) (c : Course) (s : List ℕ) (x : Made) → x ≡ cardMade look c s → cardPieces look c s ≡ textPieces (x .text) (part s (x .from) (x .end - x .from))
+made-are : (look : ℕ → Meaning) (c : Course) (s : List ℕ) (x : Made) → x ≡ cardMade look c s → cardPieces look c s ≡ textPieces (x .text) (part s (x .from) (x .end - x .from))
 made-are look c s x e = made-pieces look c s ∙ ap (λ (y : Made). textPieces (y .text) (part s (y .from) (y .end - y .from))) (sym e)
 
 -- TEXTS
@@ -73,7 +74,7 @@ unfolding textOf
 record-size card address [] size count a b = rw (eq-eqb size 0 (sym a))
 record-size card address (p ∷ ps) size count a b =
     let l = record-length (recordOfPieces card address (p ∷ ps)) in
-    rw (ne-eqb size 0 (λ z. let none = text-none (p ∷ ps) (a ∙ z) in let w : _≡_ {A = ℕ} 0 1 = cc in omega arith)) (l ∙ omega arith)
+    rw (ne-eqb size 0 (λ z. let none = text-none (p ∷ ps) (a ∙ z) in clash (cc))) (l ∙ omega arith)
 
 -- a text without a byte has no record, one with a byte has
 pub record-none : (card address : ℕ) (ps : List Piece) → length (textOf ps) ≡ 0 → cardRecord card address ps ≡ []
@@ -85,10 +86,10 @@ record-some card address [] h = absurd (h refl)
 record-some card address (p ∷ ps) h = refl
 
 -- the record of what a card makes
-pub made-bytes : (look : ℕ → Entry) (c : Course) (s : List ℕ) (x : Made) → x ≡ cardMade look c s → (k : ℕ) → cardRecord k (c .counter) (cardPieces look c s) ≡ madeRecord k (c .counter) x s
+pub made-bytes : (look : ℕ → Meaning) (c : Course) (s : List ℕ) (x : Made) → x ≡ cardMade look c s → (k : ℕ) → cardRecord k (c .counter) (cardPieces look c s) ≡ madeRecord k (c .counter) x s
 made-bytes look c s x e k = ap (cardRecord k (c .counter)) (made-are look c s x e)
 
-pub made-size : (look : ℕ → Entry) (c : Course) (s : List ℕ) (x : Made) → x ≡ cardMade look c s → MadeFits x s → (k : ℕ)
+pub made-size : (look : ℕ → Meaning) (c : Course) (s : List ℕ) (x : Made) → x ≡ cardMade look c s → MadeFits x s → (k : ℕ)
     → length (cardRecord k (c .counter) (cardPieces look c s)) ≡ madeLength x
 made-size look c s x e f k =
     let o = part s (x .from) (x .end - x .from) in
@@ -97,7 +98,7 @@ made-size look c s x e f k =
     (ap (λ ps. length (textOf ps)) is ∙ length-is (x .text) o (f .text)) (ap (λ ps. length (fieldsOf ps)) is ∙ ap length (fields-are (x .text) o))
 
 -- the record of the first card, and those behind it
-pub records-more : (look : ℕ → Entry) (k : ℕ) (c : Course) (s : List ℕ) (ss : List (List ℕ))
+pub records-more : (look : ℕ → Meaning) (k : ℕ) (c : Course) (s : List ℕ) (ss : List (List ℕ))
     → recordsBytes (cardRecords look k c (s ∷ ss)) ≡ cardRecord k (c .counter) (cardPieces look c s) ++ recordsBytes (cardRecords look (k + 1) (stepTwo look c s) ss)
 unfolding cardRecords recordsBytes
 records-more look k c s ss = go (cardPieces look c s) (cardRecords look (k + 1) (stepTwo look c s) ss)
@@ -106,6 +107,6 @@ records-more look k c s ss = go (cardPieces look c s) (cardRecords look (k + 1) 
     go [] rs = refl
     go (p ∷ ps) rs = refl
 
-pub records-none : (look : ℕ → Entry) (k : ℕ) (c : Course) → recordsBytes (cardRecords look k c []) ≡ []
+pub records-none : (look : ℕ → Meaning) (k : ℕ) (c : Course) → recordsBytes (cardRecords look k c []) ≡ []
 unfolding cardRecords recordsBytes
 records-none look k c = refl

@@ -11,7 +11,7 @@ use Rattle.cards.specs.Source.{columnsOf, cardsFrom, cardsOf}
 use Rattle.cards.proofs.Laws.{cards-more, cards-none}
 use Rattle.operations.specs.declared.Operation.{Operation}
 use Rattle.forms.specs.Size.{sizeOf}
-use Rattle.statements.specs.declared.operands.Operands.{Operands}
+use Rattle.operands.specs.declared.Operands.{Operands}
 use Rattle.statements.specs.Statements.{loneValue}
 use Rattle.lines.specs.declared.Line.{Line}
 use Rattle.lines.specs.declared.Reading.{Reading}
@@ -19,9 +19,10 @@ use Rattle.lines.specs.declared.Reading.the-variants.{Comment, BadName, Stateme
 use Rattle.lines.specs.Lines.{readingOf}
 use Rattle.lines.proofs.Laws.{line-within}
 use Rattle.passes.specs.declared.Phase.{Phase}
-use Rattle.passes.specs.declared.Role.{Role}
-use Rattle.passes.specs.declared.Role.the-variants.{Starts, Equates, SetsCounter, Ends, Advances}
-use Rattle.passes.specs.Cards.{roleOf, operandsAt, counterBy, counterAfter, nameValueBy, nameValue}
+use Rattle.operations.specs.declared.traits.Role.{Role}
+use Rattle.operations.specs.declared.traits.Role.the-variants.{Starts, Equates, SetsCounter, Ends, Advances}
+use Rattle.operations.specs.Traits.{roleOf}
+use Rattle.passes.specs.Cards.{operandsAt, counterBy, counterAfter, nameValueBy, nameValue}
 use Rattle.passes.specs.One.{State, fresh, earlyBy, earlyNo, overNo, valueNo, lineNo, readingNo, namesAfter, readingStep, oneNo, stepOne, endedAs, passOne}
 use Rattle.passes.specs.One.Passed.{stopped}
 use Rattle.passes.proofs.Turns.{pass-more, pass-stop, pass-end}
@@ -106,7 +107,7 @@ line-enters st l e h name =
       record {
         new = new .0;
         low = rw (sizes-fit (l .shape) (sizes .0)) at over;
-        short = omega (arith, length-short (l .operation) (l .shape) (sizes .0));
+        short = omega (arith, length-short (roleOf (l .operation)) (l .operation) (l .shape) (sizes .0));
         number = name;
       },
       room-fits (st .counter) (sizeOf (l .operation) (l .shape)) (sizes .1),

@@ -7,8 +7,8 @@ use lib.ListN.{length, length-append}
 use lib.Seq.{sets}
 use Rattle.values.specs.Words.{part}
 use Rattle.values.proofs.Laws.{both-true, sets-append}
-use Rattle.names.specs.declared.Entry.{Entry}
-use Rattle.book.specs.declared.Entry.{Entry as BookEntry}
+use Rattle.names.specs.declared.Meaning.{Meaning}
+use Rattle.book.specs.declared.Entry.{Entry}
 use Rattle.book.specs.declared.Entry.the-variants.{Absent}
 use Rattle.book.specs.Writing.{recordsBytes}
 use Rattle.cards.specs.Source.{columnsOf, cardsFrom}
@@ -27,7 +27,7 @@ use Rattle.making.proofs.Cards.{made-number, made-course, made-entry, made-fits
 use Rattle.making.proofs.Writing.{made-bytes, made-size, records-more, records-none}
 
 -- the first END counts
-first-or : (a b : Sought) (rest : BookEntry) → entryOr a (entryOr b rest) ≡ entryOr (firstOf a b) rest
+first-or : (a b : Sought) (rest : Entry) → entryOr a (entryOr b rest) ≡ entryOr (firstOf a b) rest
 first-or Open b rest = refl
 first-or (Found e) b rest = refl
 
@@ -44,7 +44,7 @@ module _ (width : ℕ) (s : List ℕ) (at left : ℕ) (card : List ℕ) (is : ca
   sound-on h = both-true _ _ (sym (ap sound first) ∙ h)
 
   -- what the card makes, and what those behind it make
-  module _ (look : ℕ → Entry) (k : ℕ) (c : Course) (x : Made) (made : x ≡ cardMade look c card) where
+  module _ (look : ℕ → Meaning) (k : ℕ) (c : Course) (x : Made) (made : x ≡ cardMade look c card) where
     next : x .course ≡ stepTwo look c card
     next = ap (λ (y : Made). y .course) made ∙ made-course look c card
 
@@ -90,7 +90,7 @@ module _ (width : ℕ) (s : List ℕ) (at left : ℕ) (card : List ℕ) (is : ca
           ap (sets m to) records-on ∙ sets-append m to r rs ∙ ap (λ l. sets l (to + length r) rs) is ∙ ap (λ n. sets p n rs) there
 
 -- no card is left
-module _ (width : ℕ) (s : List ℕ) (at left : ℕ) (none : left ≤ 0) (look : ℕ → Entry) (k : ℕ) (c : Course) where
+module _ (width : ℕ) (s : List ℕ) (at left : ℕ) (none : left ≤ 0) (look : ℕ → Meaning) (k : ℕ) (c : Course) where
   pub check-done : checkTwo look k c (cardsFrom left width s at) ≡ clean
   check-done = ap (checkTwo look k c) (cards-none left width s at none) ∙ check-end look k c
 

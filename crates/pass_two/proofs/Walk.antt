@@ -6,9 +6,10 @@ use mathlib.Core.Bool.{Bool, true, false}
 use native.Mathlib.Omega.{arith}
 use lib.ListN.{length}
 use lib.Seq.{sets}
+use Rattle.values.proofs.Laws.{clash}
 use Rattle.values.specs.Words.{part}
-use Rattle.names.specs.declared.Entry.{Entry}
-use Rattle.book.specs.declared.Entry.{Entry as BookEntry}
+use Rattle.names.specs.declared.Meaning.{Meaning}
+use Rattle.book.specs.declared.Entry.{Entry}
 use Rattle.book.specs.declared.Entry.the-variants.{Absent}
 use Rattle.book.specs.Writing.{recordsBytes, headerBytes, bookBytes}
 use Rattle.book.proofs.Written.{book-length, book-laid}
@@ -24,11 +25,11 @@ use Rattle.making.specs.declared.Made.{Made}
 use Rattle.making.specs.Steps.{entryOr, firstOf, cardMade, madeLength, madeRecord, laidIf, MadeFits}
 use Rattle.pass_two.proofs.Loops.{sound-on, check-on, check-bad, entry-on, card-fits, course-most, length-on, laid-on, check-done, records-done, entry-done}
 
-book-long : (look : ℕ → Entry) (ss : List (List ℕ)) → length (bookBytes (bookFrom look ss)) ≡ 8 + length (recordsBytes (cardRecords look 1 outset ss))
+book-long : (look : ℕ → Meaning) (ss : List (List ℕ)) → length (bookBytes (bookFrom look ss)) ≡ 8 + length (recordsBytes (cardRecords look 1 outset ss))
 unfolding bookFrom
 book-long look ss = book-length (bookFrom look ss)
 
-module _ (width : ℕ) (source : List ℕ) (look : ℕ → Entry) (writes : Bool) (out₀ : List ℕ) where
+module _ (width : ℕ) (source : List ℕ) (look : ℕ → Meaning) (writes : Bool) (out₀ : List ℕ) where
   abbrev all : List (List ℕ)
   all = cardsOf width source
 
@@ -100,7 +101,7 @@ module _ (width : ℕ) (source : List ℕ) (look : ℕ → Entry) (writes : Bool
     walk-stop number card e h = go writes refl
       where
         go : (b : Bool) → writes ≡ b → writes ≡ false
-        go true on = let is = h on .0 in let z : _≡_ {A = ℕ} 0 1 = cc in absurd (omega arith)
+        go true on = let is = h on .0 in clash (cc)
         go false off = off
 
     -- no card is left
@@ -130,7 +131,7 @@ module _ (width : ℕ) (source : List ℕ) (look : ℕ → Entry) (writes : Bool
           none-laid true = refl
           none-laid false = refl
 
-      pub walk-header : (e : BookEntry) (q : List ℕ) → writes ≡ true → e ≡ entryOr entry Absent → q ≡ sets out 0 (headerBytes (to - 4) e) → q ≡ sets out₀ 0 (laidIf writes (bookBytes (bookFrom look all)))
+      pub walk-header : (e : Entry) (q : List ℕ) → writes ≡ true → e ≡ entryOr entry Absent → q ≡ sets out 0 (headerBytes (to - 4) e) → q ≡ sets out₀ 0 (laidIf writes (bookBytes (bookFrom look all)))
       unfolding bookFrom
       walk-header e q on is put =
           let end = entry-done width source at left none look k c in

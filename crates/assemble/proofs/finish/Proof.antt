@@ -5,6 +5,7 @@ use mathlib.Core.Path.{_≡_, sym, ap}
 use native.Mathlib.Omega.{arith}
 use Prim.Native.Nat.{ℕ}
 use lib.ListN.{length}
+use Rattle.values.proofs.Laws.{clash}
 use Rattle.names.specs.Table.{namesIn}
 use Rattle.names.proofs.Table.{names-length}
 use Rattle.cards.specs.Source.{cardsOf}
@@ -17,7 +18,7 @@ use Rattle.assemble.proofs.finish.Tie as tie
 
 -- src/lib.rt:50:11
 run-two-requires : tie.Need-run-two-requires
-run-two-requires c κs = let p = c .before .before .before .before .pre in (p .0, ((p .1 .0, p .1 .1), (λ on. let z : _≡_ {A = ℕ} 0 1 = cc in absurd (omega arith))))
+run-two-requires c κs = let p = c .before .before .before .before .pre in (p .0, ((p .1 .0, p .1 .1), (λ on. clash (cc))))
 
 -- src/lib.rt:51:25
 enum-known-number : tie.Need-enum-known-number

@@ -5,7 +5,7 @@ use mathlib.Core.List.{List, _∷_, []}
 use mathlib.Core.Path.{_≡_, refl, _∙_}
 use types.Run.{OneOf, miss}
 use denote.Enum.Declared.{tagOf}
-use Rattle.names.specs.declared.Entry.{Entry}
+use Rattle.names.specs.declared.Meaning.{Meaning}
 use Rattle.lines.specs.declared.Reading.{Reading}
 use Rattle.lines.specs.declared.Reading.the-variants.{Comment, BadName, Statement}
 use Rattle.lines.proofs.Reading.{the-type}
@@ -31,7 +31,7 @@ no-early-requires c κs = search needs
 returns : tie.Need-returns
 returns c = rw (c .before .before .reading .given .1) (c .early-line .ensures)
 
-others : (x : Reading) (look : ℕ → Entry) (counter : ℕ) (s : List ℕ) → OneOf (0 ∷ 1 ∷ []) (tagOf the-type x) → noEarly ≡ earlyIn look counter s x
+others : (x : Reading) (look : ℕ → Meaning) (counter : ℕ) (s : List ℕ) → OneOf (0 ∷ 1 ∷ []) (tagOf the-type x) → noEarly ≡ earlyIn look counter s x
 others Comment look counter s k = refl
 others BadName look counter s k = refl
 others (Statement l) look counter s k = absurd (miss (0 ∷ 1 ∷ []) 2 tt k)

@@ -3,12 +3,12 @@
 use mathlib.Core.List.{_∷_, []}
 use types.Run.{OneOf, miss}
 use denote.Enum.Declared.{tagOf}
-use Rattle.passes.specs.declared.Role.{Role}
-use Rattle.passes.specs.declared.Role.the-variants.{Starts, Equates, SetsCounter, Ends, Advances}
-use Rattle.passes.proofs.Role.{the-type}
+use Rattle.operations.specs.declared.traits.Role.{Role}
+use Rattle.operations.specs.declared.traits.Role.the-variants.{Starts, Equates, SetsCounter, Ends, Advances}
+use Rattle.operations.proofs.traits.Role.{the-type}
 use mathlib.Core.Path.{_≡_, refl, ap, _∙_}
 use Rattle.operations.specs.declared.Operation.{Operation}
-use Rattle.statements.specs.declared.operands.Operands.{Operands}
+use Rattle.operands.specs.declared.Operands.{Operands}
 use Rattle.names.specs.Names.{find}
 use Rattle.names.specs.Table.{namesIn}
 use Rattle.passes.specs.Cards.{operandsAt}
