@@ -1,3 +1,6 @@
+-- `field_length` meets its contract: a data card, or another.
+use Rattle.passes.proofs.Cases.{no-data}
+use mathlib.Core.Path.{_∙_}
 use borrow.Author.Needs.{needs}
 use Rattle.defining.proofs.field_length.Statement.{statement}
 use Rattle.defining.proofs.field_length.Tie as tie
@@ -19,11 +22,11 @@ size-of-requires c κs = search needs
 
 -- src/lib.rt:76:1
 returns : tie.Need-returns
-returns c = ?
+returns c = rw (c .before .before .x .given .1)
 
 -- src/lib.rt:76:1
 returns-2 : tie.Need-returns-2
-returns-2 c = ?
+returns-2 c = c .size-of .ensures ∙ no-data (c .before .before .args .x) _ _ (c .before .match .keys2)
 
 pub field-length-spec : {M : Type 1} → statement M
 field-length-spec =

@@ -1,3 +1,5 @@
+-- `place_named` meets its contract: a data card, or another.
+use Rattle.passes.proofs.Cases.{no-data}
 use borrow.Author.Needs.{needs}
 use Rattle.defining.proofs.place_named.Statement.{statement}
 use Rattle.defining.proofs.place_named.Tie as tie
@@ -15,11 +17,11 @@ last-byte-requires c κs = search needs
 
 -- src/lib.rt:40:1
 returns : tie.Need-returns
-returns c = ?
+returns c = rw (c .before .before .x .given .1) (c .last-byte .ensures)
 
 -- src/lib.rt:40:1
 returns-2 : tie.Need-returns-2
-returns-2 c = ?
+returns-2 c = no-data (c .before .args .x) _ _ (c .match .keys2)
 
 pub place-named-spec : {M : Type 1} → statement M
 place-named-spec = tie.close (tie.spec enum-known-x last-byte-requires returns returns-2)

@@ -1,3 +1,5 @@
+-- `refusals::sizes_no` meets its contract: a data card, or another.
+use Rattle.passes.proofs.Cases.{no-data}
 use borrow.Author.Needs.{needs}
 use Rattle.defining.proofs.refusals.sizes_no.Statement.{statement}
 use Rattle.defining.proofs.refusals.sizes_no.Tie as tie
@@ -15,11 +17,11 @@ data-no-requires c κs = search needs
 
 -- src/refusals.rt:123:1
 returns : tie.Need-returns
-returns c = ?
+returns c = rw (c .before .before .x .given .1) (c .data-no .ensures)
 
 -- src/refusals.rt:123:1
 returns-2 : tie.Need-returns-2
-returns-2 c = ?
+returns-2 c = no-data (c .before .args .x) _ _ (c .match .keys2)
 
 pub sizes-no-spec : {M : Type 1} → statement M
 sizes-no-spec = tie.close (tie.spec enum-known-x data-no-requires returns returns-2)

@@ -1,3 +1,6 @@
+-- `refusals::value_over` meets its contract, case by case.
+use mathlib.Core.Path.{ap, _∙_}
+use Rattle.passes.specs.One.{amountOver}
 use borrow.Author.Needs.{needs}
 use Rattle.defining.proofs.refusals.value_over.Statement.{statement}
 use Rattle.defining.proofs.refusals.value_over.Tie as tie
@@ -29,7 +32,7 @@ enum-told c = search needs
 
 -- src/refusals.rt:89:1
 returns : tie.Need-returns
-returns c = ?
+returns c = rw (c .before .before .before .before .v .given .1) (c .amount-over .ensures ∙ ap amountOver (c .before .wide16 .ensures .0 ∙ c .before .before .amount-of .ensures))
 
 -- src/refusals.rt:89:1
 returns-2 : tie.Need-returns-2
