@@ -15,7 +15,7 @@ use Rattle.values.proofs.Laws.{both-true}
 use Rattle.names.specs.declared.Meaning.{Meaning}
 use Rattle.book.specs.declared.Entry.{Entry}
 use Rattle.expressions.specs.Form.{expressionAt}
-use Rattle.expressions.specs.Value.{evaluated}
+use Rattle.expressions.specs.Value.{evaluated, valueIn}
 use Rattle.operations.specs.declared.Operation.{Operation}
 use Rattle.operations.specs.declared.traits.Role.{Role}
 use Rattle.operations.specs.declared.traits.Role.the-variants.{Starts, Equates, SetsCounter, Ends, Advances}
@@ -35,7 +35,7 @@ use Rattle.forms.specs.declared.Shape.the-variants.{Fails, StartAt, Expression,
 use Rattle.forms.specs.Size.{sizeOf}
 use Rattle.forms.proofs.Laws.{DataIn, ShapeIn, shape-in}
 use Rattle.operands.specs.declared.Operands.{Operands}
-use Rattle.operands.specs.Operands.{byType, byCard, constantOf, operandsOf}
+use Rattle.operands.specs.Operands.{addressOf, byType, byCard, constantOf, operandsOf}
 use Rattle.places.specs.declared.codes.Code.{Code}
 use Rattle.places.specs.declared.codes.Code.the-variants.{Byte, OutOfRange}
 use Rattle.places.specs.declared.Bases.{Bases}
@@ -43,9 +43,10 @@ use Rattle.places.specs.declared.Operand.{Operand}
 use Rattle.places.specs.declared.Operand.the-variants.{Direct, Indexed}
 use Rattle.places.specs.declared.Placed.{Placed}
 use Rattle.places.specs.declared.Placed.the-variants.{At, NoBase, OutOfReach}
-use Rattle.places.specs.Places.{operandSize}
+use Rattle.places.specs.Codes.{codeOf}
+use Rattle.places.specs.Places.{operandOf, operandSize}
 use Rattle.statements.specs.declared.Statement.{Statement as Stated}
-use Rattle.statements.specs.Statements.{withCode, withOperand, jumpOf, constantsOf, statementFrom}
+use Rattle.statements.specs.Statements.{statementNo, withCode, withOperand, twoOf, oneOf, jumpOf, constantsOf, statementFrom, loneValue}
 use Rattle.encode.specs.Pieces.{textOf, piecesOf}
 use Rattle.encode.specs.Steps.{constantSize}
 use Rattle.encode.proofs.Steps.{two-size, one-size, jump-text, constants-size, none-text}
@@ -61,20 +62,18 @@ use Rattle.passes.specs.Sound.{soundLine, soundReading}
 use Rattle.passes.specs.Two.{readingTwoNo, twoNo, constantPieces, dataPieces, shapePieces, linePieces, readingPieces, cardPieces, readingTwoStep, stepTwo, roleEntry, readingEntry, entryFrom}
 use Rattle.passes.proofs.Counter.{counter-most}
 use Rattle.making.specs.declared.Text.{Text}
-use Rattle.making.specs.Steps.{textBy, textOfData, textFrom, textPieces, entryOr, soughtBy, readingMade, cardMade, TextFits, MadeFits}
+use Rattle.making.specs.declared.Sought.{Sought}
+use Rattle.making.specs.Steps.{courseBy, textOfData, textFrom, textPieces, entryOr, soughtBy, madeBy, readingMade, cardMade, TextFits, MadeFits}
 
 -- WHAT IT IS
 
-pieces-of : (c : DataCard) (d : Data) (o : List ℕ) (st : Stated) → dataPieces c (d .kind) (constantText o d) (piecesOf st) ≡ textPieces (textOfData c d st) o
+pieces-of : (c : DataCard) (k : DataType) (d : Data) (o : List ℕ) (st : Stated) → dataPieces c k (constantText o d) (piecesOf st) ≡ textPieces (textOfData c k d st) o
 unfolding piecesOf
-pieces-of Reserve d o st = refl
-pieces-of Constant d o st = go (d .kind)
-  where
-    go : (k : DataType) → constantPieces k (constantText o d) (piecesOf st) ≡ textPieces (textBy k d st) o
-    go Characters = refl
-    go Hexadecimal = refl
-    go Decimal = refl
-    go Address = refl
+pieces-of Reserve k d o st = refl
+pieces-of Constant Characters d o st = refl
+pieces-of Constant Hexadecimal d o st = refl
+pieces-of Constant Decimal d o st = refl
+pieces-of Constant Address d o st = refl
 
 pieces-from : (x : Shape) (o : List ℕ) (st : Stated) → shapePieces x o (piecesOf st) ≡ textPieces (textFrom x st) o
 pieces-from (Fails q) o st = refl
@@ -86,7 +85,7 @@ pieces-from Target o st = refl
 pieces-from (TwoAddresses a b) o st = refl
 pieces-from (AddressAndCode a p) o st = refl
 pieces-from (LoneAddress a) o st = refl
-pieces-from (Shape.Data d) o st = pieces-of (d .card) d o st
+pieces-from (Shape.Data d) o st = pieces-of (d .card) (d .kind) d o st
 
 module _ (look : ℕ → Meaning) (c : Course) (s : List ℕ) where
   pub made-pieces : cardPieces look c s ≡ textPieces (cardMade look c s .text) (part s (cardMade look c s .from) (cardMade look c s .end - cardMade look c s .from))
@@ -131,6 +130,13 @@ module _ (look : ℕ → Meaning) (c : Course) (s : List ℕ) where
       go Comment rest = refl
       go BadName rest = refl
       go (Statement l) rest = by (roleOf (l .operation)) (valueAt look (c .counter) s l) rest
+
+-- what a line makes, part by part
+pub made-line : (c : Course) (l : Line) (x : Operands) (number : ℕ) (text : Text) (entry : Sought) (course : Course)
+    → number ≡ statementNo (l .operation) x (c .counter) (c .bases) → text ≡ textFrom (l .shape) (statementFrom (l .operation) x (c .counter) (c .bases))
+    → entry ≡ soughtBy (roleOf (l .operation)) (loneValue x) → course ≡ courseBy c l x (loneValue x)
+    → record { number = number; text = text; from = l .operand; end = l .end; entry = entry; course = course } ≡ madeBy c l x
+made-line c l x number text entry course n t e k = rw (n, t, e, k)
 
 -- SIZES
 
@@ -179,6 +185,12 @@ operand-short NoBase f h = none-short
 operand-short OutOfReach f h = none-short
 operand-short Placed.Nothing f h = none-short
 
+two-parts : (op : Operation) (code : Code) (first second : Placed) → Short (twoOf op code first second)
+two-parts op code first second = code-short code _ (λ q. operand-short first _ (λ x. operand-short second _ (λ y. two-short op q x y)))
+
+one-parts : (op : Operation) (code : Code) (first : Placed) → Short (oneOf op code first)
+one-parts op code first = code-short code _ (λ q. operand-short first _ (λ x. one-short op q x))
+
 jump-short : (u : Use) (code reach : Code) → Short (jumpOf u code reach)
 jump-short Jumps code reach = code-short code _ (λ q. code-short reach _ (λ b. omega (arith, ap length (jump-text q b))))
 jump-short Registers code reach = none-short
@@ -204,23 +216,18 @@ constants-short d (Is v) k e =
         go false e true f = sym (eqb-true m 3 f)
         go false e false f = omega (arith, eqb-false m 1 e, eqb-false m 3 f)
 
--- where the text of a data card comes from, by its card and type
-abbrev textOfKind : DataCard → DataType → Data → Stated → Text
-textOfKind Constant k d st = textBy k d st
-textOfKind Reserve k d st = Text.Stated Stated.None
-
 module _ (look : ℕ → Meaning) (here : ℕ) (bases : Bases) (op : Operation) (o : List ℕ) where
-  data-fits : (d : Data) → dataNo d ≡ 0 → DataIn o (d .card) d → TextFits (textOfData (d .card) d (statementFrom op (constantOf look here o d) here bases)) o
+  data-fits : (d : Data) → dataNo d ≡ 0 → DataIn o (d .card) d → TextFits (textOfData (d .card) (d .kind) d (statementFrom op (constantOf look here o d) here bases)) o
   unfolding statementFrom
   data-fits d e w = go (d .card) (d .kind) refl e w
     where
       go : (c : DataCard) (k : DataType) → d .kind ≡ k → dataNoBy c d ≡ 0 → DataIn o c d
-          → TextFits (textOfKind c k d (statementFrom op (byCard c (byType k (Operands.AddressConstants (d .copies) (d .length) (evaluated look here (expressionAt o (d .value)))))) here bases)) o
+          → TextFits (textOfData c k d (statementFrom op (byCard c (byType k (Operands.AddressConstants (d .copies) (d .length) (evaluated look here (expressionAt o (d .value)))))) here bases)) o
       go Reserve k q e w = none-short
       go Constant Characters q e w = let inside = w .1 in (e, omega arith)
       go Constant Hexadecimal q e w = let inside = w .1 in (e, omega arith)
       go Constant Decimal q e w = let inside = w .1 in (e, omega arith)
-      go Constant Address q e w = constants-short d _ q e
+      go Constant Address q e w = constants-short d (valueIn (evaluated look here (expressionAt o (d .value)))) q e
 
   text-fits : (x : Shape) → sizesNo x ≡ 0 → ShapeIn o x → TextFits (textFrom x (statementFrom op (operandsOf look here o x) here bases)) o
   unfolding operandsOf statementFrom
@@ -230,9 +237,16 @@ module _ (look : ℕ → Meaning) (here : ℕ) (bases : Bases) (op : Operation) 
   text-fits Expression e w = jump-short (useOf op) _ _
   text-fits (Pair p) e w = jump-short (useOf op) _ _
   text-fits Target e w = jump-short (useOf op) _ _
-  text-fits (TwoAddresses a b) e w = code-short _ _ (λ q. operand-short _ _ (λ x. operand-short _ _ (λ y. two-short op q x y)))
-  text-fits (AddressAndCode a p) e w = code-short _ _ (λ q. operand-short _ _ (λ x. one-short op q x))
-  text-fits (LoneAddress a) e w = code-short _ _ (λ q. operand-short _ _ (λ x. one-short op q x))
+  text-fits (TwoAddresses a b) e w =
+      let x = addressOf look here o a in
+      let y = addressOf look here o b in
+      two-parts op (codeOf op (Operands.TwoAddresses x y)) (operandOf bases x) (operandOf bases y)
+  text-fits (AddressAndCode a p) e w =
+      let x = addressOf look here o a in
+      one-parts op (codeOf op (Operands.AddressAndCode x (evaluated look here (expressionAt o p)))) (operandOf bases x)
+  text-fits (LoneAddress a) e w =
+      let x = addressOf look here o a in
+      one-parts op (codeOf op (Operands.LoneAddress x)) (operandOf bases x)
   text-fits (Shape.Data d) e w = data-fits d e w
 
 pub made-fits : (look : ℕ → Meaning) (c : Course) (s : List ℕ) → soundReading (readingOf s) ≡ true → MadeFits (cardMade look c s) s

@@ -55,12 +55,12 @@ textBy Decimal d st = Text.Columns d
 textBy Address d st = Text.Stated st
 
 -- DS makes none
-abbrev pub textOfData : DataCard → Data → Stated → Text
-textOfData Constant d st = textBy (d .kind) d st
-textOfData Reserve d st = Text.Stated Stated.None
+abbrev pub textOfData : DataCard → DataType → Data → Stated → Text
+textOfData Constant kind d st = textBy kind d st
+textOfData Reserve kind d st = Text.Stated Stated.None
 
 abbrev pub textFrom : Shape → Stated → Text
-textFrom x st = ofData x (λ d. textOfData (d .card) d st) (Text.Stated st)
+textFrom x st = ofData x (λ d. textOfData (d .card) (d .kind) d st) (Text.Stated st)
 
 -- the pieces of a text, over the columns of the operand
 abbrev pub textPieces : Text → List ℕ → List Piece

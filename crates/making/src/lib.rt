@@ -84,11 +84,9 @@ fn text_by(kind: DataType, d: Data, st: Statement) -> Text
 }
 
 // Of a data card: DS makes none.
-fn text_of(d: Data, st: Statement) -> Text
-    ensures { λ r. ⌜ r ≡ textOfData (d .card) d st ⌝ }
+fn text_of(card: DataCard, kind: DataType, d: Data, st: Statement) -> Text
+    ensures { λ r. ⌜ r ≡ textOfData card kind d st ⌝ }
 {
-    let card = d.card;
-    let kind = d.kind;
     match card {
         DataCard::Constant => text_by(kind, d, st),
         DataCard::Reserve => Text::Stated(Statement::None),
@@ -100,7 +98,11 @@ fn text_from(shape: Shape, st: Statement) -> Text
     ensures { λ r. ⌜ r ≡ textFrom shape st ⌝ }
 {
     match shape {
-        Shape::Data(d) => text_of(d, st),
+        Shape::Data(d) => {
+            let card = d.card;
+            let kind = d.kind;
+            text_of(card, kind, d, st)
+        }
         _ => Text::Stated(st),
     }
 }
