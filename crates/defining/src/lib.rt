@@ -92,7 +92,14 @@ fn name_length(role: Role, op: Operation, x: Shape) -> usize
 }
 
 // A line's name goes into the table, where it has one; how many names there are then.
-pub fn enter(role: Role, v: MaybeValue, counter: u32, l: Line, table: &mut [u8], count: usize) -> usize
+pub fn enter(
+    role: Role,
+    v: MaybeValue,
+    counter: u32,
+    l: Line,
+    table: &mut [u8],
+    count: usize,
+) -> usize
     requires { ⌜ (8192 ≤ length (now table)) × (ascending (namesIn count (now table)) ≡ true) × (count ≤ 512) ⌝ }
     requires { ⌜ Enters (namesIn count (now table)) role v counter l ⌝ }
     ensures { λ r. ⌜ (namesIn r (now (table .exit)) ≡ enteredBy (namesIn count (now (table .entry))) role v counter l) × (r ≤ 512) ⌝ }

@@ -6,6 +6,7 @@ use native.Mathlib.Omega.{arith}
 use lib.ListN.{length, drop}
 use Rattle.values.specs.Words.{part}
 use Rattle.values.proofs.Refusals.{or-zero}
+use Rattle.names.specs.declared.Name.{Name}
 use Rattle.names.specs.Names.{find}
 use Rattle.cards.specs.Source.{columnsOf, cardsFrom, cardsOf}
 use Rattle.cards.proofs.Laws.{cards-more, cards-none}
@@ -23,17 +24,17 @@ use Rattle.operations.specs.declared.traits.Role.{Role}
 use Rattle.operations.specs.declared.traits.Role.the-variants.{Starts, Equates, SetsCounter, Ends, Advances}
 use Rattle.operations.specs.Traits.{roleOf}
 use Rattle.passes.specs.Cards.{operandsAt, counterBy, counterAfter, nameValueBy, nameValue}
-use Rattle.passes.specs.One.{State, fresh, earlyBy, earlyNo, overNo, valueNo, lineNo, readingNo, namesAfter, readingStep, oneNo, stepOne, endedAs, passOne}
+use Rattle.passes.specs.One.{State, fresh, earlyBy, earlyNo, overNo, valueNo, lineNo, readingNo, namesAfter, readingStep, oneNo, phaseAfter, stepOne, endedAs, passOne}
 use Rattle.passes.specs.One.Passed.{stopped}
 use Rattle.passes.proofs.Turns.{pass-more, pass-stop, pass-end}
 use Rattle.passes.proofs.Fine.{room-fits, one-zero}
 use Rattle.passes.proofs.Counter.{step-low}
 use Rattle.passes.proofs.Names.{step-ascending}
 use Rattle.passes.proofs.Named.{sizes-fit, length-short}
-use Rattle.defining.specs.Entering.{Enters}
+use Rattle.defining.specs.Entering.{Enters, enteredBy}
 use Rattle.pass_one.specs.declared.Early.{Early}
 use Rattle.pass_one.specs.declared.Pass.{Pass}
-use Rattle.pass_one.specs.Code.{earlyFrom, earlyIn, valueBy, lineBy, readingBy, stepBy, nameFits, standsFor, Fit}
+use Rattle.pass_one.specs.Code.{earlyFrom, earlyIn, valueBy, lineBy, readingBy, lineStepBy, stepBy, nameFits, standsFor, Fit}
 
 -- THE OPERAND THAT PASS ONE LOOKS AT
 
@@ -112,6 +113,12 @@ line-enters st l e h name =
       },
       room-fits (st .counter) (sizeOf (l .operation) (l .shape)) (sizes .1),
     )
+
+-- behind it, part by part
+pub line-steps : (st : State) (l : Line) (e : Early) (r : Role) (counter : ℕ) (names : List Name) (phase : Phase) → r ≡ roleOf (l .operation)
+    → counter ≡ counterBy r (e .value) (st .counter) l → names ≡ enteredBy (st .names) r (e .value) (st .counter) l → phase ≡ phaseAfter r (st .phase)
+    → record { counter = counter; names = names; phase = phase } ≡ lineStepBy st l e
+line-steps st l e r counter names phase is c n p = rw (c, n, p, is)
 
 -- A TURN OVER THE CARDS
 

@@ -2,7 +2,7 @@
 -- `line_step` meets its contract: the counter and the names of a line that is let through.
 use native.Mathlib.Omega.{arith}
 use Rattle.pass_one.specs.Code.{standsFor}
-use Rattle.pass_one.proofs.Laws.{line-enters}
+use Rattle.pass_one.proofs.Laws.{line-enters, line-steps}
 use borrow.Author.Needs.{needs}
 use Rattle.pass_one.proofs.line_step.Statement.{statement}
 use Rattle.pass_one.proofs.line_step.Tie as tie
@@ -29,7 +29,12 @@ same-length c = search needs
 
 -- src/lib.rt:172:1
 returns : tie.Need-returns
-returns c = let e = c .before .before .enter .ensures in ((cc, e .0 .1), e .1)
+returns c =
+    let a = c .before .before .before .before .before .before .before .before .args in
+    let e = c .before .before .enter .ensures in (
+      (line-steps (standsFor (a .p) (a .table .now)) (a .l) (a .e) _ _ _ _ (c .before .before .before .before .before .before .role-of .ensures) (c .before .before .before .before .before .counter-by .ensures) (e .0 .0) (c .before .before .before .before .phase-after .ensures), e .0 .1),
+      e .1,
+    )
 
 pub line-step-spec : {M : Type 1} → statement M
 line-step-spec =
