@@ -13,8 +13,8 @@ use Rattle.book.specs.Writing.{bookBytes}
 use Rattle.cards.specs.Source.{sourceNo, cardsOf}
 use Rattle.passes.specs.declared.Assembled.{Assembled}
 use Rattle.passes.specs.declared.Assembled.the-variants.{Made, Refused}
-use Rattle.passes.specs.declared.Checked.{Checked}
-use Rattle.passes.specs.declared.Checked.the-variants.{Clean, Bad}
+use Rattle.passes.specs.Two.{Checked}
+use Rattle.passes.specs.Two.Checked.{clean, bad}
 use Rattle.passes.specs.One.{Passed, fresh, passOne}
 use Rattle.passes.specs.One.Passed.{through, stopped}
 use Rattle.passes.specs.Two.{outset, checkTwo, bookFrom}
@@ -25,8 +25,8 @@ pub data Result : Type 0 where
   refused : ℕ → ℕ → Result
 
 abbrev pub afterTwo : List (List ℕ) → List Name → Checked → Result
-afterTwo ss names Clean = made (length names) (bookFrom (find names) ss)
-afterTwo ss names (Bad number card) = refused number card
+afterTwo ss names clean = made (length names) (bookFrom (find names) ss)
+afterTwo ss names (bad number card) = refused number card
 
 abbrev pub afterOne : List (List ℕ) → Passed → Result
 afterOne ss (through st) = afterTwo ss (st .names) (checkTwo (find (st .names)) 1 outset ss)

@@ -4,29 +4,29 @@ use mathlib.Core.List.{List, [], _∷_}
 use mathlib.Core.Bool.{Bool, true}
 use lib.Dec.{leb, eqb}
 use Rattle.values.specs.Tests.{pick, orElse}
+use Rattle.values.specs.declared.MaybeValue.{MaybeValue}
+use Rattle.values.specs.Values.{amountOf, withValue}
 use Rattle.names.specs.declared.Name.{Name}
-use Rattle.names.specs.declared.Entry.{Entry}
+use Rattle.names.specs.declared.Meaning.{Meaning}
 use Rattle.names.specs.Names.{find, defined, nameRefusal}
-use Rattle.names.specs.Table.{amountOf}
 use Rattle.cards.specs.Fields.{byteNo}
 use Rattle.operations.specs.declared.Operation.{Operation}
-use Rattle.operations.specs.Codes.{operationNo, nameNo}
-use Rattle.data.specs.Sizes.{lengthFits, constantNo, reserveNo}
+use Rattle.operations.specs.declared.traits.Role.{Role}
+use Rattle.operations.specs.declared.traits.Role.the-variants.{Starts, Equates, SetsCounter, Ends, Advances}
+use Rattle.operations.specs.Traits.{roleOf, operationNo, nameNo}
+use Rattle.data.specs.Sizes.{lengthFits, dataNo}
 use Rattle.forms.specs.declared.Shape.{Shape}
-use Rattle.forms.specs.declared.Shape.the-variants.{Fails, Nothing, StartAt, Expression, Pair, Target, Two, One, Only, Constant, Reserve}
+use Rattle.forms.specs.Shape.{ofData}
 use Rattle.forms.specs.Size.{sizeOf}
-use Rattle.values.specs.declared.Value.{Value}
-use Rattle.statements.specs.declared.operands.Operands.{Operands}
-use Rattle.statements.specs.Kinds.{expressionsNo}
+use Rattle.operands.specs.declared.Operands.{Operands}
+use Rattle.operands.specs.Kinds.{expressionsNo}
 use Rattle.lines.specs.declared.Line.{Line}
 use Rattle.lines.specs.declared.Reading.{Reading}
 use Rattle.lines.specs.declared.Reading.the-variants.{Comment, BadName, Statement}
 use Rattle.lines.specs.Lines.{readingOf, shapeNo}
-use Rattle.passes.specs.declared.Role.{Role}
-use Rattle.passes.specs.declared.Role.the-variants.{Starts, Equates, SetsCounter, Ends, Advances}
 use Rattle.passes.specs.declared.Phase.{Phase}
 use Rattle.passes.specs.declared.Phase.the-variants.{Before, Within, Ended}
-use Rattle.passes.specs.Cards.{roleOf, operandsAt, counterAfter, nameValue, nameLength}
+use Rattle.passes.specs.Cards.{operandsAt, counterAfter, nameValue, nameLength}
 
 -- between two cards: the counter, the names defined, and whether START and END have been
 pub record State : Type 0 where
@@ -82,43 +82,26 @@ earlyBy SetsCounter op x = expressionsNo op x
 earlyBy Ends op x = 0
 earlyBy Advances op x = 0
 
-unfoldable pub earlyNo : (ℕ → Entry) → ℕ → List ℕ → Line → ℕ
+unfoldable pub earlyNo : (ℕ → Meaning) → ℕ → List ℕ → Line → ℕ
 earlyNo look counter s l = earlyBy (roleOf (l .operation)) (l .operation) (operandsAt look counter s l)
 
 -- m is in its range, or the card has none
 abbrev pub mFits : Shape → Bool
-mFits (Fails q) = true
-mFits Nothing = true
-mFits (StartAt v) = true
-mFits Expression = true
-mFits (Pair p) = true
-mFits Target = true
-mFits (Two a b) = true
-mFits (One a p) = true
-mFits (Only a) = true
-mFits (Constant d) = lengthFits d
-mFits (Reserve d) = lengthFits d
+mFits x = ofData x lengthFits true
 
 -- 20: "a name's value over 65535 included", "not where m is out of range"
-abbrev pub over : Value → ℕ
-over v = pick (leb (amountOf v) 65535) 0 20
+abbrev pub amountOver : ℕ → ℕ
+amountOver n = pick (leb n 65535) 0 20
 
-unfoldable pub overNo : (ℕ → Entry) → ℕ → List ℕ → Line → ℕ
+abbrev pub over : MaybeValue → ℕ
+over v = withValue v (λ x. amountOver (amountOf x)) 0
+
+unfoldable pub overNo : (ℕ → Meaning) → ℕ → List ℕ → Line → ℕ
 overNo look counter s l = pick (mFits (l .shape)) (over (nameValue look counter s l)) 0
 
 -- 21 of DC and DS
-abbrev pub dataNo : Shape → ℕ
-dataNo (Fails q) = 0
-dataNo Nothing = 0
-dataNo (StartAt v) = 0
-dataNo Expression = 0
-dataNo (Pair p) = 0
-dataNo Target = 0
-dataNo (Two a b) = 0
-dataNo (One a p) = 0
-dataNo (Only a) = 0
-dataNo (Constant d) = constantNo d
-dataNo (Reserve d) = reserveNo d
+abbrev pub sizesNo : Shape → ℕ
+sizesNo x = ofData x dataNo 0
 
 -- 24: "counter past 65536"
 abbrev pub roomNo : ℕ → ℕ → ℕ
@@ -130,7 +113,7 @@ valueNo st s l =
     orElse (ifNamed (l .name) (nameRefusal mostNames (st .names) (l .name)))
     (orElse (earlyNo (find (st .names)) (st .counter) s l)
     (orElse (ifNamed (l .name) (overNo (find (st .names)) (st .counter) s l))
-    (orElse (dataNo (l .shape)) (roomNo (st .counter) (sizeOf (l .operation) (l .shape))))))
+    (orElse (sizesNo (l .shape)) (roomNo (st .counter) (sizeOf (l .operation) (l .shape))))))
 
 -- 12 to 15 before them
 unfoldable pub lineNo : State → List ℕ → Line → ℕ
@@ -151,17 +134,15 @@ oneNo st s = orElse (afterEndNo (st .phase)) (orElse (byteNo s) (readingNo st s 
 
 -- WHAT A CARD DOES
 
+-- a name is defined where it has a value
+abbrev pub definedAs : ℕ → MaybeValue → ℕ → List Name → List Name
+definedAs number v length names = withValue v (λ x. defined (record { number = number; value = x; length = length }) names) names
+
 -- a name more, where the line has one
-unfoldable pub entered : State → List ℕ → Line → List Name
-entered st s l =
+unfoldable pub namesAfter : State → List ℕ → Line → List Name
+namesAfter st s l =
     pick (eqb (l .name) 0) (st .names)
-    (defined
-    (record {
-      number = l .name;
-      value = nameValue (find (st .names)) (st .counter) s l;
-      length = nameLength (l .operation) (l .shape);
-    })
-    (st .names))
+    (definedAs (l .name) (nameValue (find (st .names)) (st .counter) s l) (nameLength (l .operation) (l .shape)) (st .names))
 
 abbrev pub phaseAfter : Role → Phase → Phase
 phaseAfter Starts p = Within
@@ -173,7 +154,7 @@ phaseAfter Advances p = p
 abbrev pub lineStep : State → List ℕ → Line → State
 lineStep st s l = record {
   counter = counterAfter (find (st .names)) (st .counter) s l;
-  names = entered st s l;
+  names = namesAfter st s l;
   phase = phaseAfter (roleOf (l .operation)) (st .phase);
 }
 
@@ -198,7 +179,7 @@ endedAs Before st = stopped 9 0
 endedAs Within st = stopped 9 0
 endedAs Ended st = through st
 
--- the cards from number k on
+-- the cards from card k on
 unfoldable pub passOne : ℕ → State → List (List ℕ) → Passed
 passOne k st [] = endedAs (st .phase) st
 passOne k st (s ∷ ss) = pick (eqb (oneNo st s) 0) (passOne (k + 1) (stepOne st s) ss) (stopped (oneNo st s) k)
