@@ -26,10 +26,10 @@ use Rattle.passes.specs.Assembly.{assembled}
 use Rattle.passes.specs.Assembly.Result.{made}
 use Rattle.passes.proofs.Turns.{pass-turn}
 use Rattle.passes.proofs.Fine.{one-zero}
-use Rattle.theorems.specs.Grow.{behindOne, behindTwo, namesBy, lookIn, counterOne}
+use Rattle.theorems.proofs.Clash.{clash}
+use Rattle.theorems.specs.Grow.{behind, behindTwo, namesBy, lookIn, counterOne}
 use Rattle.theorems.proofs.Grow.{same-counters}
-use Rattle.theorems.proofs.Made.{both-passed}
-use Rattle.theorems.proofs.Accepted.{pass-all}
+use Rattle.theorems.proofs.Made.{pass-ended, both-passed}
 
 -- END is the last card: one behind it would be refused by 9
 ended-last : (ss : List (List ℕ)) (k : ℕ) (st a : State) → passOne k st ss ≡ through a → st .phase ≡ Ended → length ss ≡ 0
@@ -66,7 +66,7 @@ becomes-ended st s n h = go (readingOf s) refl h
     go (Statement l) q h = by (roleOf (l .operation)) refl h
       where
         by : (r : Role) → roleOf (l .operation) ≡ r → phaseAfter r (st .phase) ≡ Ended → (l : Line) × (readingOf s ≡ Statement l) × (roleOf (l .operation) ≡ Ends)
-        by Starts e h = let z : _≡_ {A = ℕ} 0 1 = cc in absurd (omega arith)
+        by Starts e h = clash (cc)
         by Equates e h = absurd (n h)
         by SetsCounter e h = absurd (n h)
         by Ends e h = (l, q, e)
@@ -74,10 +74,8 @@ becomes-ended st s n h = go (readingOf s) refl h
 
 end-at : (ss : List (List ℕ)) (k : ℕ) (st a : State) → passOne k st ss ≡ through a → (st .phase ≡ Ended → ⊥)
     → (n : ℕ) × (l : Line) × (length ss ≡ suc n) × (readingOf (getD ss n []) ≡ Statement l) × (roleOf (l .operation) ≡ Ends)
-unfolding behindOne
-end-at [] k st a h n =
-    let (each, same, phase) = pass-all [] k st a h in
-    absurd (n (ap (λ (x : State). x .phase) same ∙ phase))
+unfolding behind
+end-at [] k st a h n = absurd (n (pass-ended k st a h .1))
 end-at (s ∷ ss) k st a h n =
     let t = pass-turn k st a s ss h in
     go (stepOne st s .phase) refl (ended-last ss (k + 1) (stepOne st s) a (t .1)) (end-at ss (k + 1) (stepOne st s) a (t .1))
@@ -92,14 +90,14 @@ end-at (s ∷ ss) k st a h n =
     on (n, l, e, q, r) = (suc n, l, ap suc e, q, r)
 
     go : (p : Phase) → stepOne st s .phase ≡ p → (stepOne st s .phase ≡ Ended → length ss ≡ 0) → ((stepOne st s .phase ≡ Ended → ⊥) → Rest) → Goal
-    go Before e last rest = on (rest (λ f. let z : _≡_ {A = ℕ} 0 1 = cc in omega arith))
-    go Within e last rest = on (rest (λ f. let z : _≡_ {A = ℕ} 0 1 = cc in omega arith))
+    go Before e last rest = on (rest (λ f. clash (cc)))
+    go Within e last rest = on (rest (λ f. clash (cc)))
     go Ended e last rest = let (l, q, r) = becomes-ended st s n e in (0, l, ap suc (last e), q, r)
 
 entry-at : (look : ℕ → Entry) (a : State) (n : ℕ) (ss : List (List ℕ)) (k : ℕ) (st : State) (c : Course) → passOne k st ss ≡ through a → n < length ss
     → (l : Line) → readingOf (getD ss n []) ≡ Statement l → roleOf (l .operation) ≡ Ends
     → entryFrom look c ss ≡ entryBy (loneValue (operandsAt look (behindTwo look n c ss .counter) (getD ss n []) l))
-unfolding behindTwo entryFrom
+unfolding behind entryFrom
 entry-at look a n [] k st c h i l q r = absurd (omega arith)
 entry-at look a zero (s ∷ ss) k st c h i l q r =
     ap (λ x. readingEntry look c s x (entryFrom look (stepTwo look c s) ss)) q
@@ -114,7 +112,7 @@ pub end-last : (ss : List (List ℕ)) (n : ℕ) (b : Book) → assembled ss ≡ 
     → (k : ℕ) × (l : Line) × (length ss ≡ suc k) × (readingOf (getD ss k []) ≡ Statement l) × (roleOf (l .operation) ≡ Ends)
 end-last ss n b h =
     let p = both-passed ss n b h in
-    end-at ss 1 fresh (p .end) (p .one) (λ e. let z : _≡_ {A = ℕ} 0 1 = cc in omega arith)
+    end-at ss 1 fresh (p .end) (p .one) (λ e. clash (cc))
 
 -- the entry of an accepted source is what the operand of its END comes to: none where that is absent
 pub entry-exact : (ss : List (List ℕ)) (n : ℕ) (b : Book) → assembled ss ≡ made n b → (k : ℕ) → k < length ss

@@ -31,7 +31,8 @@ use Rattle.passes.specs.Two.{outset, stepTwo, cardPieces, recordOf, withRecord,
 use Rattle.passes.specs.Assembly.{assembled}
 use Rattle.passes.specs.Assembly.Result.{made}
 use Rattle.passes.proofs.Turns.{pass-turn}
-use Rattle.theorems.specs.Grow.{behindTwo, namesBy, lookIn, counterOne, counterTwo}
+use Rattle.theorems.proofs.Clash.{clash}
+use Rattle.theorems.specs.Grow.{behind, behindTwo, namesBy, lookIn, counterOne, counterTwo}
 use Rattle.theorems.specs.Readable.{makes}
 use Rattle.theorems.specs.Fields.{piecesAt, cardRecord, FieldAt, Apart}
 use Rattle.theorems.specs.Raised.{raisedPiece}
@@ -175,7 +176,7 @@ moved-field d was (p ∷ os) t least size e room u o m =
     go : fieldsFit (p + 2) size os ≡ true → p + 2 ≤ length t → (b : Bool) → ltb 65535 (word was p + d) ≡ b → either b (overIn d was os) ≡ false
         → (overIn d was os ≡ false → (o : ℕ) → List·Memᴰ o os → word (movedIn d was os put) o ≡ word was o + d)
         → (o ≡ p) ⊎ List·Memᴰ o os → word (movedIn d was os put) o ≡ word was o + d
-    go others inside true q u ih m = let z : _≡_ {A = ℕ} 0 1 = cc in absurd (omega arith)
+    go others inside true q u ih m = clash (cc)
     go others inside false q u ih (inl e) = rw e (first-field d was os t p size (word was p + d) others inside (ltb-false 65535 (word was p + d) q))
     go others inside false q u ih (inr x) = ih u o x
 
@@ -194,13 +195,13 @@ module _ (look : ℕ → Entry) (a : State) (r : Record) where
       × (r ≡ recordOf (k + i) (behindTwo look i c ss .counter) (cardPieces look (behindTwo look i c ss) (getD ss i [])))
 
   later : (s : List ℕ) (ss : List (List ℕ)) (k : ℕ) (c : Course) → Of ss (k + 1) (stepTwo look c s) → Of (s ∷ ss) k c
-  unfolding behindTwo
+  unfolding behind
   later s ss k c (i, l, m, e) =
       let n : k + 1 + i ≡ k + suc i = omega arith in
       (suc i, omega arith, m, e ∙ ap (λ x. recordOf x (behindTwo look i (stepTwo look c s) ss .counter) (cardPieces look (behindTwo look i (stepTwo look c s) ss) (getD ss i []))) n)
 
   record-card : (ss : List (List ℕ)) (k : ℕ) (st : State) (c : Course) → passOne k st ss ≡ through a → List·Memᴰ r (recordsFrom look k c ss) → Of ss k c
-  unfolding recordsFrom behindTwo
+  unfolding recordsFrom behind
   record-card [] k st c h m = absurd (List·Memᴰ·not-nil m)
   record-card (s ∷ ss) k st c h m =
       let t = pass-turn k st a s ss h in
@@ -222,7 +223,7 @@ module _ (look : ℕ → Entry) (a : State) (r : Record) where
           by (inr f) = on f
 
   card-record : (ss : List (List ℕ)) (k : ℕ) (st : State) (c : Course) → passOne k st ss ≡ through a → Of ss k c → List·Memᴰ r (recordsFrom look k c ss)
-  unfolding recordsFrom behindTwo textOf
+  unfolding recordsFrom behind textOf
   card-record [] k st c h (i, l, m, e) = absurd (omega arith)
   card-record (s ∷ ss) k st c h (zero, l, m, e) =
       let t = pass-turn k st a s ss h in

@@ -47,7 +47,8 @@ use Rattle.passes.specs.Two.{outset, readingTwoNo, twoNo, readingTwoStep, stepT
 use Rattle.passes.proofs.Turns.{pass-turn}
 use Rattle.passes.proofs.Counter.{counter-most}
 use Rattle.passes.proofs.Fine.{Fine, fine, one-zero}
-use Rattle.theorems.specs.Grow.{Keeps, behindOne, behindTwo, namesBy, lookIn, counterOne, counterTwo, readingSize, cardSize}
+use Rattle.theorems.proofs.Clash.{clash}
+use Rattle.theorems.specs.Grow.{behind, Keeps, behindOne, behindTwo, namesBy, lookIn, counterOne, counterTwo, readingSize, cardSize}
 use Rattle.theorems.proofs.Lines.{equ-shape, org-shape}
 use Rattle.theorems.proofs.Kept.{value-kept, names-grow}
 
@@ -107,29 +108,29 @@ module _ (look more : ℕ → Entry) (keeps : Keeps look more) (here : ℕ) (o :
 
   seen-again : (op : Operation) (x : Shape) → x ≡ shapeOf op o → shapeNo x ≡ 0 → earlyBy (roleOf op) op (operandsOf look here o x) ≡ 0 → early (roleOf op) ≡ true → (bases : Bases)
       → numberOf op (operandsOf more here o x) here bases ≡ 0
-  seen-again Unknown x e f h r bases = let z : _≡_ {A = ℕ} 0 1 = cc in absurd (omega arith)
-  seen-again Start x e f h r bases = let z : _≡_ {A = ℕ} 0 1 = cc in absurd (omega arith)
+  seen-again Unknown x e f h r bases = clash (cc)
+  seen-again Start x e f h r bases = clash (cc)
   seen-again Equ x e f h r bases =
       let y : x ≡ Expression = e ∙ equ-shape o (ap shapeNo (sym e) ∙ f) in
       rw y (equ-again (rw y at h) bases)
   seen-again Org x e f h r bases =
       let y : x ≡ Expression = e ∙ org-shape o (ap shapeNo (sym e) ∙ f) in
       rw y (org-again (rw y at h) bases)
-  seen-again Dc x e f h r bases = let z : _≡_ {A = ℕ} 0 1 = cc in absurd (omega arith)
-  seen-again Ds x e f h r bases = let z : _≡_ {A = ℕ} 0 1 = cc in absurd (omega arith)
-  seen-again Using x e f h r bases = let z : _≡_ {A = ℕ} 0 1 = cc in absurd (omega arith)
-  seen-again Drop x e f h r bases = let z : _≡_ {A = ℕ} 0 1 = cc in absurd (omega arith)
-  seen-again End x e f h r bases = let z : _≡_ {A = ℕ} 0 1 = cc in absurd (omega arith)
-  seen-again (Decimal low) x e f h r bases = let z : _≡_ {A = ℕ} 0 1 = cc in absurd (omega arith)
-  seen-again (Characters low) x e f h r bases = let z : _≡_ {A = ℕ} 0 1 = cc in absurd (omega arith)
-  seen-again Move x e f h r bases = let z : _≡_ {A = ℕ} 0 1 = cc in absurd (omega arith)
-  seen-again (MoveOf item) x e f h r bases = let z : _≡_ {A = ℕ} 0 1 = cc in absurd (omega arith)
-  seen-again (OneAddress low) x e f h r bases = let z : _≡_ {A = ℕ} 0 1 = cc in absurd (omega arith)
-  seen-again (Branch low) x e f h r bases = let z : _≡_ {A = ℕ} 0 1 = cc in absurd (omega arith)
-  seen-again LoadAddress x e f h r bases = let z : _≡_ {A = ℕ} 0 1 = cc in absurd (omega arith)
-  seen-again (BranchOn q) x e f h r bases = let z : _≡_ {A = ℕ} 0 1 = cc in absurd (omega arith)
-  seen-again Jump x e f h r bases = let z : _≡_ {A = ℕ} 0 1 = cc in absurd (omega arith)
-  seen-again (JumpOn q) x e f h r bases = let z : _≡_ {A = ℕ} 0 1 = cc in absurd (omega arith)
+  seen-again Dc x e f h r bases = clash (cc)
+  seen-again Ds x e f h r bases = clash (cc)
+  seen-again Using x e f h r bases = clash (cc)
+  seen-again Drop x e f h r bases = clash (cc)
+  seen-again End x e f h r bases = clash (cc)
+  seen-again (Decimal low) x e f h r bases = clash (cc)
+  seen-again (Characters low) x e f h r bases = clash (cc)
+  seen-again Move x e f h r bases = clash (cc)
+  seen-again (MoveOf item) x e f h r bases = clash (cc)
+  seen-again (OneAddress low) x e f h r bases = clash (cc)
+  seen-again (Branch low) x e f h r bases = clash (cc)
+  seen-again LoadAddress x e f h r bases = clash (cc)
+  seen-again (BranchOn q) x e f h r bases = clash (cc)
+  seen-again Jump x e f h r bases = clash (cc)
+  seen-again (JumpOn q) x e f h r bases = clash (cc)
 
 -- a line that pass one lets through, over all names
 module _ (st : State) (more : ℕ → Entry) (keeps : Keeps (find (st .names)) more) (s : List ℕ) (l : Line) (f : Fine st s l) where
@@ -195,7 +196,7 @@ step-low st s e low = go (readingOf s) refl (one-zero st s e .2)
 module _ (a : State) where
   behind-same : (n : ℕ) (ss : List (List ℕ)) (k : ℕ) (st : State) (c : Course) → passOne k st ss ≡ through a → c .counter ≡ st .counter
       → behindTwo (find (a .names)) n c ss .counter ≡ behindOne n st ss .counter
-  unfolding behindOne behindTwo
+  unfolding behind
   behind-same zero ss k st c h e = e
   behind-same (suc n) [] k st c h e = e
   behind-same (suc n) (s ∷ ss) k st c h e =
@@ -204,14 +205,14 @@ module _ (a : State) where
       (card-counter st (find (a .names)) (names-grow (s ∷ ss) k st a h) s (t .0) c e)
 
   behind-keeps : (n : ℕ) (ss : List (List ℕ)) (k : ℕ) (st : State) → passOne k st ss ≡ through a → Keeps (find (behindOne n st ss .names)) (find (a .names))
-  unfolding behindOne
+  unfolding behind
   behind-keeps zero ss k st h = names-grow ss k st a h
   behind-keeps (suc n) [] k st h = names-grow [] k st a h
   behind-keeps (suc n) (s ∷ ss) k st h = behind-keeps n ss (k + 1) (stepOne st s) (pass-turn k st a s ss h .1)
 
   behind-room : (n : ℕ) (ss : List (List ℕ)) (k : ℕ) (st : State) (c : Course) → passOne k st ss ≡ through a → c .counter ≡ st .counter → st .counter ≤ 65536
       → n < length ss → behindTwo (find (a .names)) n c ss .counter + cardSize (getD ss n []) ≤ 65536
-  unfolding behindTwo
+  unfolding behind
   behind-room n [] k st c h e low i = absurd (omega arith)
   behind-room zero (s ∷ ss) k st c h e low i =
       card-room st (find (a .names)) (names-grow (s ∷ ss) k st a h) s (pass-turn k st a s ss h .0) c e low
@@ -223,7 +224,7 @@ module _ (a : State) where
   behind-again : (n : ℕ) (ss : List (List ℕ)) (k : ℕ) (st : State) (c : Course) → passOne k st ss ≡ through a → c .counter ≡ st .counter → n < length ss
       → (l : Line) → readingOf (getD ss n []) ≡ Statement l → early (roleOf (l .operation)) ≡ true
       → twoNo (find (a .names)) (behindTwo (find (a .names)) n c ss) (getD ss n []) ≡ 0
-  unfolding behindTwo
+  unfolding behind
   behind-again n [] k st c h e i l q r = absurd (omega arith)
   behind-again zero (s ∷ ss) k st c h e i l q r =
       card-again st (find (a .names)) (names-grow (s ∷ ss) k st a h) s (pass-turn k st a s ss h .0) c e l q r

@@ -24,19 +24,19 @@ use Rattle.lines.specs.declared.Line.{Line}
 use Rattle.lines.specs.declared.Reading.{Reading}
 use Rattle.lines.specs.declared.Reading.the-variants.{Comment, BadName, Statement}
 use Rattle.lines.specs.Lines.{readingOf}
-use Rattle.passes.specs.declared.Phase.{Phase}
-use Rattle.passes.specs.declared.Phase.the-variants.{Before, Within, Ended}
 use Rattle.passes.specs.Cards.{nameValue, nameLength}
-use Rattle.passes.specs.One.{State, mostNames, ifNamed, readingNo, oneNo, entered, readingStep, stepOne, endedAs, passOne}
+use Rattle.passes.specs.One.{State, mostNames, ifNamed, readingNo, oneNo, entered, readingStep, stepOne, passOne}
 use Rattle.passes.specs.One.Passed.{through}
-use Rattle.passes.proofs.Turns.{pass-turn, pass-end}
+use Rattle.passes.proofs.Turns.{pass-turn}
 use Rattle.passes.proofs.Fine.{fine, one-zero}
+use Rattle.theorems.proofs.Clash.{clash}
 use Rattle.theorems.specs.Grow.{Keeps}
+use Rattle.theorems.proofs.Made.{pass-ended}
 
 -- EXPRESSIONS
 
 either-false : (a b : Bool) → either a b ≡ false → (a ≡ false) × (b ≡ false)
-either-false true b e = let z : _≡_ {A = ℕ} 0 1 = cc in absurd (omega arith)
+either-false true b e = clash (cc)
 either-false false b e = (refl, e)
 
 -- a sum that has a value has no name that is not defined
@@ -45,7 +45,7 @@ unfolding valueOf
 none-unknown ys v h = go (anyUnknown ys) h
   where
     go : (b : Bool) → pick b Undefined (pick (sumOf ys .mixed) WrongKind (byKind (sumOf ys))) ≡ Good v → b ≡ false
-    go true h = let z : _≡_ {A = ℕ} 0 1 = cc in absurd (omega arith)
+    go true h = clash (cc)
     go false h = refl
 
 module _ (look more : ℕ → Entry) (keeps : Keeps look more) (here : ℕ) where
@@ -55,7 +55,7 @@ module _ (look more : ℕ → Entry) (keeps : Keeps look more) (here : ℕ) wher
     where
       go : (x : Entry) → look k ≡ x → entryFactor x .undefined ≡ false → entryFactor (more k) ≡ entryFactor x
       go (Known v l) h e = ap entryFactor (keeps k v l h)
-      go Unknown h e = let z : _≡_ {A = ℕ} 0 1 = cc in absurd (omega arith)
+      go Unknown h e = clash (cc)
   factor-kept (Here q) e = refl
   factor-kept (Bad q) e = refl
 
@@ -83,7 +83,7 @@ module _ (look more : ℕ → Entry) (keeps : Keeps look more) (here : ℕ) wher
   pub value-kept : (e : Read (List (Addend Placed))) (v : Value) → evaluated look here e ≡ Good v → evaluated more here e ≡ Good v
   unfolding evaluated
   value-kept (upTo xs q) v h = ap (λ ys. valueOf (sumOf ys)) (addends-kept xs (none-unknown (map (addendFactors look here) xs) v h)) ∙ h
-  value-kept (fails q) v h = let z : _≡_ {A = ℕ} 0 1 = cc in absurd (omega arith)
+  value-kept (fails q) v h = clash (cc)
 
 -- NAMES
 
@@ -124,18 +124,9 @@ step-keeps st s e = go (readingOf s) (one-zero st s e .2)
     go BadName e = λ k v n h. h
     go (Statement l) e = entered-keeps st s l (fine st s l e .new)
 
--- a pass that ends where it stands
-pub pass-ended : (k : ℕ) (st a : State) → passOne k st [] ≡ through a → a ≡ st
-pass-ended k st a h = go (st .phase) (sym (pass-end k st) ∙ h)
-  where
-    go : (p : Phase) → endedAs p st ≡ through a → a ≡ st
-    go Before h = let z : _≡_ {A = ℕ} 0 1 = cc in absurd (omega arith)
-    go Within h = let z : _≡_ {A = ℕ} 0 1 = cc in absurd (omega arith)
-    go Ended h = cc
-
 -- NAMES ONLY GROW over pass one ("name already defined" is 16): a name that was found at some card keeps its value and its length to the end
 pub names-grow : (ss : List (List ℕ)) (k : ℕ) (st a : State) → passOne k st ss ≡ through a → Keeps (find (st .names)) (find (a .names))
-names-grow [] k st a h name v n e = ap (λ (x : State). find (x .names) name) (pass-ended k st a h) ∙ e
+names-grow [] k st a h name v n e = ap (λ (x : State). find (x .names) name) (pass-ended k st a h .0) ∙ e
 names-grow (s ∷ ss) k st a h name v n e =
     let t = pass-turn k st a s ss h in
     names-grow ss (k + 1) (stepOne st s) a (t .1) name v n (step-keeps st s (t .0) name v n e)

@@ -1,15 +1,15 @@
 -- The theorems.
+mod Clash
+mod Outcomes
+mod Fair
+mod Made
 mod Raised
 pub mod Raising
 mod Lines
 mod Kept
 pub mod Grow
 mod Texts
-mod Made
-mod Numbers
 mod Stores
-mod Called
-mod Loads
 pub mod Readable
 pub mod Sums
 pub mod Fields
@@ -17,6 +17,7 @@ pub mod Untouched
 pub mod Stored
 pub mod Judged
 pub mod Accepted
+mod Numbers
 pub mod Entry
 pub mod ToldOnce
 mod RaisedOperands

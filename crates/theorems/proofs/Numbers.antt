@@ -1,13 +1,12 @@
 -- "Numbers of refusal": what the two passes refuse with is 9 to 24.
-use Prim.Native.Nat.{ℕ, suc, _+_, _≤_, _<_}
-use mathlib.Core.List.{List, [], _∷_}
+use Prim.Native.Nat.{ℕ, _+_, _≤_}
+use mathlib.Core.List.{List}
 use mathlib.Core.Bool.{Bool, true, false}
-use mathlib.Core.Path.{_≡_, refl, sym}
+use mathlib.Core.Path.{_≡_, refl, subst}
 use mathlib.Core.Logic.{_⊎_, inl, inr}
 use native.Mathlib.Omega.{arith}
 use lib.ListN.{length}
 use lib.Dec.{ltb, leb, eqb}
-use borrow.Author.Tests.{eqb-false}
 use Rattle.values.specs.Tests.{pick, orElse, lower}
 use Rattle.values.specs.declared.Value.{Value}
 use Rattle.names.specs.declared.Entry.{Entry}
@@ -46,14 +45,15 @@ use Rattle.lines.specs.Lines.{readingOf, shapeNo}
 use Rattle.passes.specs.declared.Role.{Role}
 use Rattle.passes.specs.declared.Phase.{Phase}
 use Rattle.passes.specs.declared.Course.{Course}
-use Rattle.passes.specs.declared.Checked.{Checked}
-use Rattle.passes.specs.declared.Checked.the-variants.{Clean, Bad}
 use Rattle.passes.specs.Cards.{roleOf, operandsAt, nameValue}
-use Rattle.passes.specs.One.{State, Passed, fresh, afterEndNo, startNo, againNo, mostNames, earlyBy, earlyNo, mFits, over, overNo, dataNo, valueNo, lineNo, readingNo, oneNo, stepOne, endedAs, passOne}
-use Rattle.passes.specs.One.Passed.{through, stopped}
-use Rattle.passes.specs.Two.{outset, readingTwoNo, twoNo, stepTwo, checkTwo}
-use Rattle.passes.specs.Assembly.{afterTwo, afterOne, assembled}
+use Rattle.passes.specs.One.{State, fresh, afterEndNo, startNo, againNo, mostNames, earlyBy, earlyNo, mFits, over, overNo, dataNo, valueNo, lineNo, readingNo, oneNo}
+use Rattle.passes.specs.Two.{outset, readingTwoNo, twoNo}
+use Rattle.passes.specs.Assembly.{assembled}
 use Rattle.passes.specs.Assembly.Result.{refused}
+use Rattle.theorems.specs.Grow.{lookIn}
+use Rattle.theorems.specs.Accepted.{oneAt, twoAt, FirstRefused}
+use Rattle.theorems.proofs.Made.{Fate, fate}
+use Rattle.theorems.proofs.Made.Fate.{byOne, noEnd, byTwo}
 
 -- none, or 9 to 24
 abbrev Number : ℕ → Type 0
@@ -265,71 +265,25 @@ told : (n : ℕ) → Number n → (n ≡ 0 → ⊥) → (9 ≤ n) × (n ≤ 24)
 told n (inl e) h = absurd (h e)
 told n (inr h) k = h
 
--- 9 to 24 with one of the cards from k on, below `end`; or 9 with card 0: "no END (card 0)"
-abbrev Told : ℕ → ℕ → ℕ → ℕ → Type 0
-Told k end number card = ((9 ≤ number) × (number ≤ 24) × (k ≤ card) × (card < end)) ⊎ ((number ≡ 9) × (card ≡ 0))
-
-module _ (number card : ℕ) where
-  -- what is told of the cards behind the first
-  behind-first : (k n : ℕ) → Told (k + 1) (k + 1 + n) number card → Told k (k + suc n) number card
-  behind-first k n (inl (low, high, from, to)) = inl (low, high, omega arith, omega arith)
-  behind-first k n (inr h) = inr h
-
-  pass-number : (ss : List (List ℕ)) (k : ℕ) (st : State) → passOne k st ss ≡ stopped number card → Told k (k + length ss) number card
-  unfolding passOne
-  pass-number [] k st h = go (st .phase) h
-    where
-      go : (p : Phase) → endedAs p st ≡ stopped number card → Told k (k + 0) number card
-      go Phase.Before h = let e : _≡_ {A = ℕ} 9 number = cc in let f : _≡_ {A = ℕ} 0 card = cc in inr (sym e, sym f)
-      go Phase.Within h = let e : _≡_ {A = ℕ} 9 number = cc in let f : _≡_ {A = ℕ} 0 card = cc in inr (sym e, sym f)
-      go Phase.Ended h = let z : _≡_ {A = ℕ} 0 1 = cc in absurd (omega arith)
-  pass-number (s ∷ ss) k st h = go (eqb (oneNo st s) 0) refl h (pass-number ss (k + 1) (stepOne st s))
-    where
-      go : (b : Bool) → eqb (oneNo st s) 0 ≡ b → pick b (passOne (k + 1) (stepOne st s) ss) (stopped (oneNo st s) k) ≡ stopped number card
-          → (passOne (k + 1) (stepOne st s) ss ≡ stopped number card → Told (k + 1) (k + 1 + length ss) number card)
-          → Told k (k + suc (length ss)) number card
-      go true e h ih = behind-first k (length ss) (ih h)
-      go false e h ih =
-          let is : oneNo st s ≡ number = cc in
-          let at : k ≡ card = cc in
-          let r = told (oneNo st s) (one-number st s) (eqb-false (oneNo st s) 0 e) in
-          inl (omega arith, omega arith, omega arith, omega arith)
-
-  check-number : (look : ℕ → Entry) (ss : List (List ℕ)) (k : ℕ) (c : Course) → checkTwo look k c ss ≡ Bad number card → Told k (k + length ss) number card
-  unfolding checkTwo
-  check-number look [] k c h = let z : _≡_ {A = ℕ} 0 1 = cc in absurd (omega arith)
-  check-number look (s ∷ ss) k c h = go (eqb (twoNo look c s) 0) refl h (check-number look ss (k + 1) (stepTwo look c s))
-    where
-      go : (b : Bool) → eqb (twoNo look c s) 0 ≡ b → pick b (checkTwo look (k + 1) (stepTwo look c s) ss) (Bad (twoNo look c s) k) ≡ Bad number card
-          → (checkTwo look (k + 1) (stepTwo look c s) ss ≡ Bad number card → Told (k + 1) (k + 1 + length ss) number card)
-          → Told k (k + suc (length ss)) number card
-      go true e h ih = behind-first k (length ss) (ih h)
-      go false e h ih =
-          let is : twoNo look c s ≡ number = cc in
-          let at : k ≡ card = cc in
-          let r = told (twoNo look c s) (two-number look c s) (eqb-false (twoNo look c s) 0 e) in
-          inl (omega arith, omega arith, omega arith, omega arith)
-
 -- what the cards of a source are refused with: 9 to 24 at one of them, or 9 with card 0
 pub cards-number : (ss : List (List ℕ)) (number card : ℕ) → assembled ss ≡ refused number card
     → ((9 ≤ number) × (number ≤ 24) × (1 ≤ card) × (card ≤ length ss)) ⊎ ((number ≡ 9) × (card ≡ 0))
-unfolding assembled
-cards-number ss number card h = first (passOne 1 fresh ss) refl h
+cards-number ss number card h = go (rw h at (fate ss))
   where
-    Goal : Type 0
-    Goal = ((9 ≤ number) × (number ≤ 24) × (1 ≤ card) × (card ≤ length ss)) ⊎ ((number ≡ 9) × (card ≡ 0))
+    Told : ℕ → ℕ → Type 0
+    Told number card = ((9 ≤ number) × (number ≤ 24) × (1 ≤ card) × (card ≤ length ss)) ⊎ ((number ≡ 9) × (card ≡ 0))
 
-    all : (n k : ℕ) → n ≡ number → k ≡ card → Told 1 (1 + length ss) n k → Goal
-    all n k e f (inl (low, high, from, to)) = inl (omega arith, omega arith, omega arith, omega arith)
-    all n k e f (inr (x, y)) = inr (omega arith, omega arith)
+    first : (numberAt : ℕ → ℕ) → ((k : ℕ) → Number (numberAt k)) → (number card : ℕ) → FirstRefused 1 numberAt (length ss) number card → Told number card
+    first numberAt each number card x =
+        let inside = x .inside in
+        let is = x .is in
+        let (low, high) = told number (subst Number (x .here) (each (x .place))) (x .refuses) in
+        inl (low, high, omega arith, omega arith)
 
-    second : (st : State) (x : Checked) → checkTwo (find (st .names)) 1 outset ss ≡ x → afterTwo ss (st .names) x ≡ refused number card → Goal
-    second st Clean two h = let z : _≡_ {A = ℕ} 0 1 = cc in absurd (omega arith)
-    second st (Bad n k) two h = all n k (cc) (cc) (check-number n k (find (st .names)) ss 1 outset two)
-
-    first : (p : Passed) → passOne 1 fresh ss ≡ p → afterOne ss p ≡ refused number card → Goal
-    first (through st) one h = second st (checkTwo (find (st .names)) 1 outset ss) refl h
-    first (stopped n k) one h = all n k (cc) (cc) (pass-number n k ss 1 fresh one)
+    go : {number card : ℕ} → Fate ss (refused number card) → Told number card
+    go (byOne number card x) = first (oneAt fresh ss) (λ k. one-number _ _) number card x
+    go (noEnd each no-end) = inr (refl, refl)
+    go (byTwo each end number card x) = first (twoAt (lookIn ss) outset ss) (λ k. two-number _ _ _) number card x
 
 -- so the number is none of 1 to 3, and not 30
 pub cards-range : (ss : List (List ℕ)) (number card : ℕ) → assembled ss ≡ refused number card → (9 ≤ number) × (number ≤ 24) × (card ≤ length ss)

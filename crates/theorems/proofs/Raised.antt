@@ -20,6 +20,7 @@ use Rattle.expressions.specs.declared.Kind.{Kind}
 use Rattle.expressions.specs.declared.Evaluated.the-variants.{Good, Undefined, WrongKind, OutOfRange}
 use Rattle.expressions.specs.Form.{Placed, Product, Addend}
 use Rattle.expressions.specs.Value.{entryFactor, factorOf, placedFactor, addendFactors, times, anyRelocatable, anyUndefined, mixedWith, aloneWith, worth, mixed, alone, ifPlus, ifMinus, counted, added, subtracted, afterPlus, afterMinus, anyMixed, anyUnknown, Sum, sumOf, absoluteOf, relocatableOf, valueOf}
+use Rattle.theorems.proofs.Clash.{clash}
 use Rattle.theorems.specs.Raising.{raisedLook, sortOf}
 use Rattle.theorems.specs.Raising.Sort.{undefined, noKind, ofKind}
 
@@ -120,7 +121,7 @@ module _ (d : ℕ) where
   either-left false b e = refl
 
   either-right : (a b : Bool) → either a b ≡ false → b ≡ false
-  either-right true b e = let z : _≡_ {A = ℕ} 0 1 = cc in absurd (omega arith)
+  either-right true b e = clash (cc)
   either-right false b e = e
 
   still-one : (f : Factor) → f .relocatable ≡ false → raisedFactor f ≡ f
@@ -215,9 +216,9 @@ module _ (d : ℕ) where
       go : (o a : Bool) → ltb (s .added + 65536) (s .subtracted) ≡ a → (b : Bool)
           → pick (either o (either a b)) (OutOfRange Kind.Absolute) (Good (Absolute (record { 0 = (s .added + 65536 - s .subtracted) % 65536 }))) ≡ Good v
           → (s .subtracted ≤ s .added + 65536) × (v ≡ Absolute (record { 0 = (s .added + 65536 - s .subtracted) % 65536 }))
-      go true a h b e = let z : _≡_ {A = ℕ} 0 1 = cc in absurd (omega arith)
-      go false true h b e = let z : _≡_ {A = ℕ} 0 1 = cc in absurd (omega arith)
-      go false false h true e = let z : _≡_ {A = ℕ} 0 1 = cc in absurd (omega arith)
+      go true a h b e = clash (cc)
+      go false true h b e = clash (cc)
+      go false false h true e = clash (cc)
       go false false h false e = (ltb-false (s .added + 65536) (s .subtracted) h, cc)
 
   good-relocatable : (s : Sum) (v : Value) → relocatableOf s ≡ Good v → (s .subtracted ≤ s .added) × (v ≡ Relocatable (record { 0 = s .added - s .subtracted }))
@@ -226,9 +227,9 @@ module _ (d : ℕ) where
       go : (o a : Bool) → ltb (s .added) (s .subtracted) ≡ a → (b : Bool)
           → pick (either o (either a b)) (OutOfRange Kind.Relocatable) (Good (Relocatable (record { 0 = s .added - s .subtracted }))) ≡ Good v
           → (s .subtracted ≤ s .added) × (v ≡ Relocatable (record { 0 = s .added - s .subtracted }))
-      go true a h b e = let z : _≡_ {A = ℕ} 0 1 = cc in absurd (omega arith)
-      go false true h b e = let z : _≡_ {A = ℕ} 0 1 = cc in absurd (omega arith)
-      go false false h true e = let z : _≡_ {A = ℕ} 0 1 = cc in absurd (omega arith)
+      go true a h b e = clash (cc)
+      go false true h b e = clash (cc)
+      go false false h true e = clash (cc)
       go false false h false e = (ltb-false (s .added) (s .subtracted) h, cc)
 
   module _ (xs : List (Addend Factor)) (v w : Value) (m : anyMixed xs ≡ false) where
@@ -262,8 +263,8 @@ module _ (d : ℕ) where
           → pick a Undefined (pick b WrongKind (pick c (absoluteOf (sumOf xs)) (pick g (relocatableOf (sumOf xs)) WrongKind))) ≡ Good v
           → pick a Undefined (pick b WrongKind (pick c (absoluteOf (sumOf (map raisedAddend xs))) (pick g (relocatableOf (sumOf (map raisedAddend xs))) WrongKind))) ≡ Good w
           → w ≡ raisedValue d v
-      go true b m c k g n e f = let z : _≡_ {A = ℕ} 0 1 = cc in absurd (omega arith)
-      go false true m c k g n e f = let z : _≡_ {A = ℕ} 0 1 = cc in absurd (omega arith)
+      go true b m c k g n e f = clash (cc)
+      go false true m c k g n e f = clash (cc)
       go false false m true k g n e f = absolute-stays xs v w m (eqb-true (afterPlus xs) (afterMinus xs) k) e f
       go false false m false k true n e f = relocatable-moves xs v w m (eqb-true (afterPlus xs) (afterMinus xs + 1) n) e f
-      go false false m false k false n e f = let z : _≡_ {A = ℕ} 0 1 = cc in absurd (omega arith)
+      go false false m false k false n e f = clash (cc)

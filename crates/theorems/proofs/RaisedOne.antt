@@ -4,7 +4,6 @@ use Prim.Native.Nat.{ℕ, _+_}
 use mathlib.Core.List.{List, [], _∷_, map}
 use mathlib.Core.Bool.{Bool, true, false}
 use mathlib.Core.Path.{_≡_, refl, sym, ap, _∙_}
-use native.Mathlib.Omega.{arith}
 use lib.Dec.{eqb}
 use Rattle.values.specs.Tests.{pick}
 use Rattle.names.specs.declared.Name.{Name}
@@ -18,11 +17,12 @@ use Rattle.passes.specs.declared.Role.{Role}
 use Rattle.passes.specs.declared.Phase.{Phase}
 use Rattle.passes.specs.declared.Phase.the-variants.{Before, Within, Ended}
 use Rattle.passes.specs.Cards.{roleOf, nameValue, nameLength}
-use Rattle.passes.specs.One.{State, againNo, startNo, readingNo, oneNo, entered, phaseAfter, readingStep, stepOne, endedAs, passOne}
+use Rattle.passes.specs.One.{State, againNo, startNo, readingNo, oneNo, entered, phaseAfter, readingStep, stepOne, passOne}
 use Rattle.passes.specs.One.Passed.{through}
-use Rattle.passes.proofs.Turns.{pass-turn, pass-end}
+use Rattle.passes.proofs.Turns.{pass-turn}
 use Rattle.passes.proofs.Fine.{fine, one-zero}
 use Rattle.theorems.specs.Raised.{raisedState}
+use Rattle.theorems.proofs.Made.{pass-ended}
 use Rattle.theorems.proofs.RaisedCards.{counter-raised, name-raised}
 
 -- START has been met
@@ -102,12 +102,7 @@ module _ (d : ℕ) where
           rw (counter, entered-raised st s l value)
 
   pub pass-raised : (ss : List (List ℕ)) (k : ℕ) (st a b : State) → Begun (st .phase) → passOne k st ss ≡ through a → passOne k (raisedState d st) ss ≡ through b → b ≡ raisedState d a
-  pass-raised [] k st a b w p q = go (st .phase) (sym (pass-end k st) ∙ p) (sym (pass-end k (raisedState d st)) ∙ q)
-    where
-      go : (x : Phase) → endedAs x st ≡ through a → endedAs x (raisedState d st) ≡ through b → b ≡ raisedState d a
-      go Before p q = let z : _≡_ {A = ℕ} 0 1 = cc in absurd (omega arith)
-      go Within p q = let z : _≡_ {A = ℕ} 0 1 = cc in absurd (omega arith)
-      go Ended p q = let e : a ≡ st = cc in let f : b ≡ raisedState d st = cc in f ∙ ap (raisedState d) (sym e)
+  pass-raised [] k st a b w p q = pass-ended k (raisedState d st) b q .0 ∙ ap (raisedState d) (sym (pass-ended k st a p .0))
   pass-raised (s ∷ ss) k st a b w p q =
       let (n, r) = pass-turn k st a s ss p in
       let (m, t) = pass-turn k (raisedState d st) b s ss q in

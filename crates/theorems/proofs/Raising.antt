@@ -7,7 +7,6 @@ use Prim.Native.Nat.{ℕ, _+_}
 use mathlib.Core.List.{List, [], _∷_, map}
 use mathlib.Core.Bool.{Bool, true, false, not}
 use mathlib.Core.Path.{_≡_, refl, sym, ap, _∙_, fun-ext}
-use native.Mathlib.Omega.{arith}
 use lib.Dec.{eqb}
 use Rattle.values.specs.Tests.{pick}
 use Rattle.values.specs.declared.Value.{Value}
@@ -25,6 +24,7 @@ use Rattle.expressions.specs.declared.Evaluated.the-variants.{Good, Malformed, 
 use Rattle.expressions.specs.Form.{Placed, Addend, Read}
 use Rattle.expressions.specs.Form.Read.{upTo, fails}
 use Rattle.expressions.specs.Value.{addendFactors, evaluated, suits, kindOf, refusalFor, entryLength, termLength}
+use Rattle.theorems.proofs.Clash.{clash}
 use Rattle.theorems.specs.Raising.{raisedLook, Sort, sortOf, undefinedPlaces, undefinedTerms, undefinedAt}
 use Rattle.theorems.specs.Raising.Sort.{unformed, undefined, noKind, ofKind}
 use Rattle.theorems.proofs.Raised.{factor-raised, addends-raised, sum-sort, sum-raised}
@@ -40,7 +40,7 @@ module _ (d : ℕ) (look : ℕ → Entry) (here : ℕ) where
   value-raised : (e : Read (List (Addend Placed))) (v w : Value) → evaluated look here e ≡ Good v → evaluated (raisedLook d look) (here + d) e ≡ Good w → w ≡ raisedValue d v
   unfolding evaluated
   value-raised (upTo xs q) v w e f = sum-raised d (map (addendFactors look here) xs) v w e (rw (addends-raised d look here xs) at f)
-  value-raised (fails q) v w e f = let z : _≡_ {A = ℕ} 0 1 = cc in absurd (omega arith)
+  value-raised (fails q) v w e f = clash (cc)
 
   places-raised : (xs : List Placed) → undefinedPlaces (raisedLook d look) (here + d) xs ≡ undefinedPlaces look here xs
   unfolding undefinedPlaces

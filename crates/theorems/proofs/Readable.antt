@@ -5,7 +5,7 @@ use Prim.Native.Nat.{ℕ, _+_, _≤_, _<_}
 use mathlib.Core.List.{List, [], _∷_}
 use mathlib.Core.Bool.{Bool, true, false}
 use mathlib.Core.Option.{some}
-use mathlib.Core.Path.{_≡_, refl, sym, ap, _∙_}
+use mathlib.Core.Path.{_≡_, refl, ap, _∙_}
 use native.Mathlib.Omega.{arith}
 use lib.ListN.{length, take, drop}
 use lib.Seq.{sets, sets-eq, take-append-seam}
@@ -16,7 +16,7 @@ use Rattle.values.specs.declared.Value.the-variants.{Absolute, Relocatable}
 use Rattle.values.specs.declared.Displacement.{Displacement}
 use Rattle.names.specs.declared.Entry.{Entry}
 use Rattle.names.specs.Names.{find}
-use Rattle.names.specs.Table.{amountOf, zeroed}
+use Rattle.names.specs.Table.{amountOf}
 use Rattle.book.specs.declared.Entry.{Entry as BookEntry}
 use Rattle.book.specs.Book.{Record, Book, bookOf}
 use Rattle.book.specs.Writing.{bookBytes, entryFits, fairAll}
@@ -45,8 +45,8 @@ use Rattle.passes.specs.Cards.{roleOf, operandsAt}
 use Rattle.passes.specs.One.{State, fresh, dataNo, readingNo, oneNo, stepOne, passOne}
 use Rattle.passes.specs.One.Passed.{through}
 use Rattle.passes.specs.Two.{outset, stepTwo, cardPieces, recordOf, withRecord, recordsFrom, entryBy, roleEntry, readingEntry, entryFrom, bookFrom}
-use Rattle.passes.specs.declared.Assembled.the-variants.{Made, Refused}
-use Rattle.passes.specs.Assembly.{assembled, workSize, assembling}
+use Rattle.passes.specs.declared.Assembled.the-variants.{Made}
+use Rattle.passes.specs.Assembly.{assembled, assembling}
 use Rattle.passes.specs.Assembly.Result.{made}
 use Rattle.passes.proofs.Turns.{pass-turn}
 use Rattle.passes.proofs.Fine.{fine, one-zero}
@@ -57,10 +57,9 @@ use Rattle.theorems.proofs.Kept.{names-grow}
 use Rattle.theorems.proofs.Grow.{card-counter, card-room, step-low}
 use Rattle.theorems.proofs.Texts.{some-text, card-makes, fields-fit}
 use Rattle.theorems.proofs.Made.{both-passed}
-use Rattle.theorems.proofs.Loads.{Load, load}
-use Rattle.theorems.proofs.Loads.Load.{isBroken, isOutside, isOver, isEntryOver, isStored}
-use Rattle.theorems.proofs.Called.{Way, way}
-use Rattle.theorems.proofs.Called.Way.{atOnce, byCards, tooLong, whole}
+use Rattle.theorems.proofs.Clash.{clash}
+use Rattle.theorems.proofs.Judged.{refused-50}
+use Rattle.theorems.proofs.Outcomes.{cards-few, made-way}
 
 -- A CARD'S TEXT
 
@@ -157,14 +156,7 @@ entry-fits look (s ∷ ss) c = go (readingOf s) (entryFrom look (stepTwo look c 
 
 -- LOADING a book that could be read is never refused by 50
 read-whole : (s : List ℕ) (b : Book) → bookOf s ≡ some b → (d : Displacement) (m : List ℕ) → loading s d m .answer ≡ Broken → ⊥
-read-whole s b is d m h = go (load s d m)
-  where
-    go : Load s d m → ⊥
-    go (isBroken f e) = let z : _≡_ {A = ℕ} 0 1 = cc in omega arith
-    go (isOutside b f n e) = let z : _≡_ {A = ℕ} 0 1 = cc in omega arith
-    go (isOver b f i n e) = let z : _≡_ {A = ℕ} 0 1 = cc in omega arith
-    go (isEntryOver b f i u o e) = let z : _≡_ {A = ℕ} 0 1 = cc in omega arith
-    go (isStored b f i u o to x l e) = let z : _≡_ {A = ℕ} 0 1 = cc in omega arith
+read-whole s b is d m h = let none = refused-50 s d m .0 h in clash (cc)
 
 -- THE THEOREM, of an accepted source: at most 4,000 cards, a count of names and a book
 
@@ -205,21 +197,11 @@ take-stored m vs h = rw (sets-eq vs m 0 (omega arith)) (take-append-seam vs (dro
 module _ (width : ℕ) (source work out : List ℕ) (bytes names : ℕ) (h : assembling width source work out .answer ≡ Made bytes names) where
   pub call-readable : (b : Book) × (assembled (cardsOf width source) ≡ made names b) × (take bytes (assembling width source work out .out) ≡ bookBytes b)
       × (bookOf (take bytes (assembling width source work out .out)) ≡ some b)
-  call-readable = go (way width source work out)
-    where
-      other : (number card : ℕ) (w o : List ℕ) → assembling width source work out ≡ record { answer = Refused number card; work = w; out = o } → ⊥
-      other number card w o e = let z : _≡_ {A = ℕ} 0 1 = cc in omega arith
-
-      go : Way width source work out → (b : Book) × (assembled (cardsOf width source) ≡ made names b) × (take bytes (assembling width source work out .out) ≡ bookBytes b)
-          × (bookOf (take bytes (assembling width source work out .out)) ≡ some b)
-      go (atOnce number l u e) = absurd (other number 0 work out e)
-      go (byCards w few number card f e) = absurd (other number card (zeroed workSize work) out e)
-      go (tooLong w n b f l e) = absurd (other 30 0 (zeroed workSize work) out e)
-      go (whole w n b few f l e) =
-          let size : bytes ≡ length (bookBytes b) = cc in
-          let count : names ≡ n = cc in
-          let front : take bytes (assembling width source work out .out) ≡ bookBytes b = rw (e, size) (take-stored out (bookBytes b) l) in
-          (b, f ∙ ap (λ x. made x b) (sym count), front, ap bookOf front ∙ readable (cardsOf width source) few n b f)
+  call-readable =
+      let x = made-way width source work out bytes names h in
+      let few = cards-few width source (x .source-fine) in
+      let front = ap (take bytes) (x .written) ∙ ap (λ n. take n (sets out 0 (bookBytes (x .book)))) (x .size) ∙ take-stored out (bookBytes (x .book)) (x .room) in
+      (x .book, x .cards, front, ap bookOf front ∙ readable (cardsOf width source) few names (x .book) (x .cards))
 
   -- never 50
   pub call-never-broken : (d : Displacement) (m : List ℕ) → loading (take bytes (assembling width source work out .out)) d m .answer ≡ Broken → ⊥

@@ -4,7 +4,7 @@ use Prim.Native.Nat.{ℕ, _+_, _≤_, _<_}
 use mathlib.Core.List.{List, [], _∷_, _++_}
 use mathlib.Core.Bool.{true}
 use mathlib.Core.Option.{some}
-use mathlib.Core.Path.{_≡_, ap, _∙_, subst}
+use mathlib.Core.Path.{_≡_, ap, _∙_}
 use native.Mathlib.Omega.{arith}
 use lib.ListN.{length, getD}
 use lib.Seq.{sets, length-sets}
@@ -19,9 +19,10 @@ use Rattle.load.specs.declared.Loaded.the-variants.{Stored}
 use Rattle.load.specs.Load.{Outcome, stored, storedAll, firstCard, outside, roomIn, loading}
 use Rattle.load.proofs.Laws.{none-fails}
 use Rattle.theorems.proofs.Stores.{sets-there}
-use Rattle.theorems.proofs.Loads.{Load, load, fair-first, read-fair}
-use Rattle.theorems.proofs.Loads.Load.{isBroken, isOutside, isOver, isEntryOver, isStored}
 use Rattle.theorems.proofs.Untouched.{OutsideAll, stored-other}
+use Rattle.theorems.proofs.Fair.{fair-first, read-fair}
+use Rattle.theorems.proofs.Outcomes.{Load, load}
+use Rattle.theorems.proofs.Outcomes.Load.{isStored}
 
 -- THE BYTES OF A RECORD
 
@@ -54,18 +55,11 @@ module _ (s : List ℕ) (d : Displacement) (m : List ℕ) where
       → (before : List Record) (r : Record) (later : List Record) → b .records ≡ before ++ r ∷ later
       → (i : ℕ) → i < length (r .text) → OutsideAll (d .0) (r .address + d .0 + i) later
       → getD (loaded .storage) (r .address + d .0 + i) 0 ≡ getD (movedText (d .0) r) i 0
-  storage-holds bytes at a b q before r later rs i h out = go (load s d m)
+  storage-holds bytes at a b q before r later rs i h out = go (rw a at (load s d m))
     where
-      go : Load s d m → getD (loaded .storage) (r .address + d .0 + i) 0 ≡ getD (movedText (d .0) r) i 0
-      go (isBroken f e) = let z : _≡_ {A = ℕ} 0 1 = cc in absurd (omega arith)
-      go (isOutside c f n e) = let z : _≡_ {A = ℕ} 0 1 = cc in absurd (omega arith)
-      go (isOver c f i n e) = let z : _≡_ {A = ℕ} 0 1 = cc in absurd (omega arith)
-      go (isEntryOver c f i u o e) = let z : _≡_ {A = ℕ} 0 1 = cc in absurd (omega arith)
-      go (isStored c f j u o w x l e) =
+      go : {bytes : ℕ} {at : Entry} {x : List ℕ} → Load s d m (Stored bytes at) x → getD x (r .address + d .0 + i) 0 ≡ getD (movedText (d .0) r) i 0
+      go (isStored c f j u o w x l) =
           let same : c ≡ b = cc in
           let are : c .records ≡ before ++ r ∷ later = ap (λ (x : Book). x .records) same ∙ rs in
-          ap (λ (x : Outcome). getD (x .storage) (r .address + d .0 + i) 0) e
-          ∙ ap (λ x. getD (storedAll (d .0) x m) (r .address + d .0 + i) 0) are
-          ∙ stored-holds (d .0) (roomIn m) before r later m 0
-          (subst (λ x. fairAll 0 x ≡ true) are (read-fair s c f)) (omega arith)
-          (subst (λ x. firstCard (outside (d .0) (roomIn m)) x ≡ 0) are j) i h out
+          ap (λ x. getD (storedAll (d .0) x m) (r .address + d .0 + i) 0) are
+          ∙ stored-holds (d .0) (roomIn m) before r later m 0 (rw are at (read-fair s c f)) (omega arith) (rw are at j) i h out

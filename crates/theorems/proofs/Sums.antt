@@ -4,7 +4,7 @@ use Prim.Native.Nat.{ℕ, _+_}
 use mathlib.Core.List.{List, [], _∷_, _++_}
 use mathlib.Core.Bool.{Bool, true, false}
 use mathlib.Core.Option.{some}
-use mathlib.Core.Path.{_≡_, refl, sym, ap, _∙_}
+use mathlib.Core.Path.{_≡_, refl, ap, _∙_}
 use native.Mathlib.Omega.{arith}
 use lib.ListN.{length, length-append}
 use lib.Dec.{eqb}
@@ -13,7 +13,6 @@ use Rattle.values.specs.Words.{fourBytes}
 use Rattle.values.specs.declared.Displacement.{Displacement}
 use Rattle.names.specs.declared.Name.{Name}
 use Rattle.names.specs.Names.{find, defined}
-use Rattle.names.specs.Table.{zeroed}
 use Rattle.names.proofs.Names.{defined-length}
 use Rattle.book.specs.declared.Entry.{Entry}
 use Rattle.book.specs.declared.Entry.the-variants.{Absent, At}
@@ -25,27 +24,23 @@ use Rattle.lines.specs.declared.Reading.{Reading}
 use Rattle.lines.specs.declared.Reading.the-variants.{Comment, BadName, Statement}
 use Rattle.lines.specs.Lines.{readingOf}
 use Rattle.encode.specs.Pieces.{Piece, textOf}
-use Rattle.load.specs.declared.Loaded.{Loaded}
-use Rattle.load.specs.declared.Loaded.the-variants.{Stored, Broken, Outside, Over}
-use Rattle.load.specs.Load.{bytesStored, refused, loading}
-use Rattle.passes.specs.declared.Assembled.the-variants.{Made, Refused}
+use Rattle.load.specs.declared.Loaded.the-variants.{Stored}
+use Rattle.load.specs.Load.{bytesStored, loading}
+use Rattle.passes.specs.declared.Assembled.the-variants.{Made}
 use Rattle.passes.specs.declared.Course.{Course}
 use Rattle.passes.specs.Cards.{nameValue, nameLength}
 use Rattle.passes.specs.One.{State, fresh, entered as enteredBy, readingStep, stepOne, passOne}
 use Rattle.passes.specs.One.Passed.{through}
 use Rattle.passes.specs.Two.{outset, stepTwo, cardPieces, withRecord, recordsFrom, bookFrom}
-use Rattle.passes.specs.Assembly.{assembled, workSize, assembling}
+use Rattle.passes.specs.Assembly.{assembled, assembling}
 use Rattle.passes.specs.Assembly.Result.{made}
 use Rattle.passes.proofs.Turns.{pass-turn}
 use Rattle.theorems.specs.Readable.{makes}
 use Rattle.theorems.specs.Sums.{total, readingDefines, defines, textLength, recordLength}
-use Rattle.theorems.proofs.Kept.{pass-ended}
 use Rattle.theorems.proofs.Texts.{card-makes}
-use Rattle.theorems.proofs.Made.{both-passed}
-use Rattle.theorems.proofs.Loads.{firstOutside, firstOver, Load, load}
-use Rattle.theorems.proofs.Loads.Load.{isBroken, isOutside, isOver, isEntryOver, isStored}
-use Rattle.theorems.proofs.Called.{Way, way}
-use Rattle.theorems.proofs.Called.Way.{atOnce, byCards, tooLong, whole}
+use Rattle.theorems.proofs.Made.{pass-ended, both-passed}
+use Rattle.theorems.proofs.Outcomes.{made-way, Load, load}
+use Rattle.theorems.proofs.Outcomes.Load.{isStored}
 
 -- THE COUNT OF NAMES
 
@@ -75,7 +70,7 @@ step-count st s = go (readingOf s)
 
 pass-count : (ss : List (List ℕ)) (k : ℕ) (st a : State) → passOne k st ss ≡ through a → length (a .names) ≡ length (st .names) + total defines ss
 unfolding total
-pass-count [] k st a h = ap (λ (x : State). length (x .names)) (pass-ended k st a h) ∙ omega arith
+pass-count [] k st a h = ap (λ (x : State). length (x .names)) (pass-ended k st a h .0) ∙ omega arith
 pass-count (s ∷ ss) k st a h =
     let t = pass-turn k st a s ss h in
     let r = pass-count ss (k + 1) (stepOne st s) a (t .1) in
@@ -146,32 +141,14 @@ module _ (ss : List (List ℕ)) (n : ℕ) (b : Book) (h : assembled ss ≡ made 
 -- the bytes stored by an accepted load are the sum of the records' text lengths
 pub bytes-of-load : (s : List ℕ) (d : Displacement) (m : List ℕ) (bytes : ℕ) (at : Entry) → loading s d m .answer ≡ Stored bytes at
     → (b : Book) × (bookOf s ≡ some b) × (bytes ≡ total textLength (b .records))
-bytes-of-load s d m bytes at h = go (load s d m)
+bytes-of-load s d m bytes at h = go (rw h at (load s d m))
   where
-    other : (why : Loaded) → loading s d m ≡ refused why m → why ≡ Stored bytes at
-    other why e = cc
-
-    go : Load s d m → (b : Book) × (bookOf s ≡ some b) × (bytes ≡ total textLength (b .records))
-    go (isBroken f e) = let q = other Broken e in let z : _≡_ {A = ℕ} 0 1 = cc in absurd (omega arith)
-    go (isOutside b f n e) = let q = other (Outside (firstOutside s d m b)) e in let z : _≡_ {A = ℕ} 0 1 = cc in absurd (omega arith)
-    go (isOver b f i n e) = let q = other (Over (firstOver s d m b)) e in let z : _≡_ {A = ℕ} 0 1 = cc in absurd (omega arith)
-    go (isEntryOver b f i u o e) = let q = other (Over 0) e in let z : _≡_ {A = ℕ} 0 1 = cc in absurd (omega arith)
-    go (isStored b f i u o to x l e) = let q : bytes ≡ bytesStored (b .records) = cc in (b, f, q ∙ stored-sum (b .records))
+    go : {bytes : ℕ} {at : Entry} {x : List ℕ} → Load s d m (Stored bytes at) x → (b : Book) × (bookOf s ≡ some b) × (bytes ≡ total textLength (b .records))
+    go (isStored b f i u o at x l) = (b, f, stored-sum (b .records))
 
 -- of the call: the answer's two numbers
 pub counts-of-call : (width : ℕ) (source work out : List ℕ) (bytes names : ℕ) → assembling width source work out .answer ≡ Made bytes names
     → (b : Book) × (assembled (cardsOf width source) ≡ made names b) × (bytes ≡ 8 + total recordLength (b .records)) × (names ≡ total defines (cardsOf width source))
-counts-of-call width source work out bytes names h = go (way width source work out)
-  where
-    other : (number card : ℕ) (w o : List ℕ) → assembling width source work out ≡ record { answer = Refused number card; work = w; out = o } → ⊥
-    other number card w o e = let z : _≡_ {A = ℕ} 0 1 = cc in omega arith
-
-    go : Way width source work out
-        → (b : Book) × (assembled (cardsOf width source) ≡ made names b) × (bytes ≡ 8 + total recordLength (b .records)) × (names ≡ total defines (cardsOf width source))
-    go (atOnce number l u e) = absurd (other number 0 work out e)
-    go (byCards w few number card f e) = absurd (other number card (zeroed workSize work) out e)
-    go (tooLong w n b f l e) = absurd (other 30 0 (zeroed workSize work) out e)
-    go (whole w n b few f l e) =
-        let size : bytes ≡ length (bookBytes b) = cc in
-        let count : names ≡ n = cc in
-        (b, f ∙ ap (λ x. made x b) (sym count), size ∙ book-length b, count ∙ count-of-names (cardsOf width source) n b f)
+counts-of-call width source work out bytes names h =
+    let x = made-way width source work out bytes names h in
+    (x .book, x .cards, x .size ∙ book-length (x .book), count-of-names (cardsOf width source) names (x .book) (x .cards))

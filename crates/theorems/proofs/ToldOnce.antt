@@ -4,7 +4,7 @@ use Prim.{Unit, tt}
 use Prim.Native.Nat.{ℕ, _+_, _*_, _^_, _≤_, _<_}
 use mathlib.Core.List.{List, [], _∷_}
 use mathlib.Core.Bool.{Bool, true, false}
-use mathlib.Core.Path.{_≡_, refl, sym, ap, _∙_, subst}
+use mathlib.Core.Path.{_≡_, refl, sym, ap, _∙_}
 use native.Mathlib.Omega.{arith}
 use lib.ListN.{length}
 use borrow.Author.Tests.{leb-true}
@@ -13,14 +13,14 @@ use Rattle.values.specs.declared.Displacement.{Displacement}
 use Rattle.book.specs.declared.Entry.{Entry}
 use Rattle.book.specs.declared.Entry.the-variants.{Absent, At}
 use Rattle.book.specs.Book.{Record}
-use Rattle.book.specs.Writing.{bookBytes, entryFits, fairAll}
+use Rattle.book.specs.Writing.{entryFits, fairAll}
 use Rattle.load.specs.declared.Loaded.{Loaded}
 use Rattle.load.specs.declared.Loaded.the-variants.{Stored, Broken, Outside, Over}
-use Rattle.load.specs.Load.{Outcome, bytesStored, firstCard, loading}
+use Rattle.load.specs.Load.{bytesStored, firstCard, loading}
 use Rattle.passes.specs.declared.Assembled.{Assembled}
 use Rattle.passes.specs.declared.Assembled.the-variants.{Made, Refused}
 use Rattle.passes.specs.One.{fresh}
-use Rattle.passes.specs.Assembly.{Outcome as AssemblyOutcome, assembling}
+use Rattle.passes.specs.Assembly.{assembling}
 use Rattle.passes.proofs.Names.{pass-few}
 use Rattle.cards.specs.Source.{cardsOf}
 use Rattle.book.proofs.Laws.{fields-few}
@@ -31,10 +31,11 @@ use Rattle.theorems.proofs.Made.{both-passed}
 use Rattle.theorems.proofs.Numbers.{cards-range}
 use Rattle.theorems.proofs.Sums.{record-length, book-length}
 use Rattle.theorems.proofs.Readable.{fair-records}
-use Rattle.theorems.proofs.Called.{Way, way}
-use Rattle.theorems.proofs.Called.Way.{atOnce, byCards, tooLong, whole}
-use Rattle.theorems.proofs.Loads.{Load, load, fair-first, read-fair}
-use Rattle.theorems.proofs.Loads.Load.{isBroken, isOutside, isOver, isEntryOver, isStored}
+use Rattle.theorems.proofs.Fair.{fair-first, read-fair}
+use Rattle.theorems.proofs.Outcomes.{cards-few, Way, way, Load, load}
+use Rattle.theorems.proofs.Outcomes.Way.{atOnce, byCards, tooLong, whole}
+use Rattle.theorems.proofs.Outcomes.Why.{isBroken, isOutside, isOver, isEntryOver}
+use Rattle.theorems.proofs.Outcomes.Load.{isRefused, isStored}
 
 -- ONE REPLY
 
@@ -85,17 +86,12 @@ stored-low (r ∷ rs) last f h =
 load-fits : (s : List ℕ) (d : Displacement) (m : List ℕ) → Fits (loading s d m .answer)
 load-fits s d m = go (load s d m)
   where
-    is : (a : Loaded) → loading s d m .answer ≡ a → Fits a → Fits (loading s d m .answer)
-    is a e f = subst Fits (sym e) f
-
-    go : Load s d m → Fits (loading s d m .answer)
-    go (isBroken f e) = is Broken (ap (λ (x : Outcome). x .answer) e) tt
-    go (isOutside b f n e) = is (Outside _) (ap (λ (x : Outcome). x .answer) e) (first-low _ (b .records) 0 (read-fair s b f))
-    go (isOver b f i n e) = is (Over _) (ap (λ (x : Outcome). x .answer) e) (first-low _ (b .records) 0 (read-fair s b f))
-    go (isEntryOver b f i u o e) = is (Over 0) (ap (λ (x : Outcome). x .answer) e) (omega arith)
-    go (isStored b f i u o at x l e) =
-        let low = stored-low (b .records) 0 (read-fair s b f) (omega arith) in
-        is (Stored (bytesStored (b .records)) at) (ap (λ (x : Outcome). x .answer) e) (omega arith, l)
+    go : {a : Loaded} {x : List ℕ} → Load s d m a x → Fits a
+    go (isRefused (isBroken f)) = tt
+    go (isRefused (isOutside b f n)) = first-low _ (b .records) 0 (read-fair s b f)
+    go (isRefused (isOver b f i n)) = first-low _ (b .records) 0 (read-fair s b f)
+    go (isRefused (isEntryOver b f i u o)) = omega arith
+    go (isStored b f i u o at x l) = let low = stored-low (b .records) 0 (read-fair s b f) (omega arith) in (omega arith, l)
 
 -- PACKING ONE TO ONE
 
@@ -162,22 +158,20 @@ records-low (r ∷ rs) last f h =
 assemble-fits : (width : ℕ) (source work out : List ℕ) → FitsIn (assembling width source work out .answer)
 assemble-fits width source work out = go (way width source work out)
   where
-    is : (a : Assembled) → assembling width source work out .answer ≡ a → FitsIn a → FitsIn (assembling width source work out .answer)
-    is a e f = subst FitsIn (sym e) f
-
-    go : Way width source work out → FitsIn (assembling width source work out .answer)
-    go (atOnce n l u e) = is (Refused n 0) (ap (λ (x : AssemblyOutcome). x .answer) e) (l, omega arith, omega arith)
-    go (byCards w few n k f e) =
-        let r = cards-range (cardsOf width source) n k f in
-        is (Refused n k) (ap (λ (x : AssemblyOutcome). x .answer) e) (omega arith, omega arith, omega arith)
-    go (tooLong w n b f l e) = is (Refused 30 0) (ap (λ (x : AssemblyOutcome). x .answer) e) (omega arith, omega arith, omega arith)
-    go (whole w n b few f l e) =
-        let p = both-passed (cardsOf width source) n b f in
+    go : {a : Assembled} {w o : List ℕ} → Way width source work out a w o → FitsIn a
+    go (atOnce n l u) = (l, omega arith, omega arith)
+    go (byCards w f n k e) =
+        let r = cards-range (cardsOf width source) n k e in
+        let few = cards-few width source f in
+        (omega arith, omega arith, omega arith)
+    go (tooLong w) = (omega arith, omega arith, omega arith)
+    go (whole w f n b e l) =
+        let p = both-passed (cardsOf width source) n b e in
         let count = p .count in
         let names = pass-few (cardsOf width source) 1 fresh (p .end) (p .one) (omega arith) in
         let size = book-length b in
-        let low = records-low (b .records) 0 (fair-records (cardsOf width source) few n b f) (omega arith) in
-        is (Made (length (bookBytes b)) n) (ap (λ (x : AssemblyOutcome). x .answer) e) (omega arith, omega arith)
+        let low = records-low (b .records) 0 (fair-records (cardsOf width source) (cards-few width source f) n b e) (omega arith) in
+        (omega arith, omega arith)
 
 assemble-packed : (a b : Assembled) → FitsIn a → FitsIn b → packedAssembled a ≡ packedAssembled b → a ≡ b
 assemble-packed (Made x m) (Made y n) (h, i) (k, j) q = let bytes : x ≡ y = omega arith in let names : m ≡ n = omega arith in cc

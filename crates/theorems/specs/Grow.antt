@@ -22,17 +22,17 @@ Keeps look more = (name : ℕ) (v : Value) (length : ℕ) → look name ≡ Know
 
 -- BEHIND SO MANY CARDS
 
--- where pass one stands behind the first n cards, the refusals set aside
-unfoldable pub behindOne : ℕ → State → List (List ℕ) → State
-behindOne zero st ss = st
-behindOne (suc n) st [] = st
-behindOne (suc n) st (s ∷ ss) = behindOne n (stepOne st s) ss
+-- where a walk over the cards stands behind the first n of them, the refusals set aside
+unfoldable pub behind : {S : Type 0} → (S → List ℕ → S) → ℕ → S → List (List ℕ) → S
+behind step zero st ss = st
+behind step (suc n) st [] = st
+behind step (suc n) st (s ∷ ss) = behind step n (step st s) ss
 
--- where pass two stands
-unfoldable pub behindTwo : (ℕ → Entry) → ℕ → Course → List (List ℕ) → Course
-behindTwo look zero c ss = c
-behindTwo look (suc n) c [] = c
-behindTwo look (suc n) c (s ∷ ss) = behindTwo look n (stepTwo look c s) ss
+abbrev pub behindOne : ℕ → State → List (List ℕ) → State
+behindOne = behind stepOne
+
+abbrev pub behindTwo : (ℕ → Entry) → ℕ → Course → List (List ℕ) → Course
+behindTwo look = behind (stepTwo look)
 
 -- all names of a source that pass one goes through
 abbrev pub namesBy : Passed → List Name
