@@ -6,7 +6,7 @@ use mathlib.Core.Path.{_≡_, refl, sym, ap, _∙_}
 use native.Mathlib.Omega.{arith}
 use lib.Dec.{eqb}
 use borrow.Author.Tests.{eqb-true}
-use Rattle.values.specs.Tests.{pick, either}
+use Rattle.values.specs.Tests.{pick}
 use Rattle.values.specs.declared.Value.{Value}
 use Rattle.terms.specs.declared.Term.{Term}
 use Rattle.terms.specs.declared.Term.the-variants.{Number, Symbol, Here, Bad}
@@ -29,15 +29,11 @@ use Rattle.passes.specs.One.{State, mostNames, ifNamed, readingNo, oneNo, enter
 use Rattle.passes.specs.One.Passed.{through}
 use Rattle.passes.proofs.Turns.{pass-turn}
 use Rattle.passes.proofs.Fine.{fine, one-zero}
-use Rattle.theorems.proofs.Clash.{clash}
+use Rattle.theorems.proofs.Clash.{clash, either-false}
 use Rattle.theorems.specs.Grow.{Keeps}
 use Rattle.theorems.proofs.Made.{pass-ended}
 
 -- EXPRESSIONS
-
-either-false : (a b : Bool) → either a b ≡ false → (a ≡ false) × (b ≡ false)
-either-false true b e = clash (cc)
-either-false false b e = (refl, e)
 
 -- a sum that has a value has no name that is not defined
 none-unknown : (ys : List (Addend Factor)) (v : Value) → valueOf (sumOf ys) ≡ Good v → anyUnknown ys ≡ false

@@ -3,7 +3,7 @@ use Prim.Native.Nat.{ℕ, _+_, _-_, _*_, _%_, _≤_}
 use mathlib.Core.List.{List, [], _∷_, map}
 use mathlib.Core.Bool.{Bool, true, false}
 use mathlib.Core.Path.{_≡_, refl, sym, ap, _∙_}
-use native.Mathlib.Nat.{mul-add}
+use native.Mathlib.Nat.{add-zero, mul-zero, mul-one, mul-add}
 use native.Mathlib.Omega.{arith}
 use lib.Dec.{ltb, eqb}
 use borrow.Author.Tests.{ltb-false, eqb-true}
@@ -20,7 +20,7 @@ use Rattle.expressions.specs.declared.Kind.{Kind}
 use Rattle.expressions.specs.declared.Evaluated.the-variants.{Good, Undefined, WrongKind, OutOfRange}
 use Rattle.expressions.specs.Form.{Placed, Product, Addend}
 use Rattle.expressions.specs.Value.{entryFactor, factorOf, placedFactor, addendFactors, times, anyRelocatable, anyUndefined, mixedWith, aloneWith, worth, mixed, alone, ifPlus, ifMinus, counted, added, subtracted, afterPlus, afterMinus, anyMixed, anyUnknown, Sum, sumOf, absoluteOf, relocatableOf, valueOf}
-use Rattle.theorems.proofs.Clash.{clash}
+use Rattle.theorems.proofs.Clash.{clash, either-false}
 use Rattle.theorems.specs.Raising.{raisedLook, sortOf}
 use Rattle.theorems.specs.Raising.Sort.{undefined, noKind, ofKind}
 
@@ -38,30 +38,15 @@ module _ (d : ℕ) where
 
   module _ (look : ℕ → Entry) (here : ℕ) where
     pub factor-raised : (t : Term) → factorOf (raisedLook d look) (here + d) t ≡ raisedFactor (factorOf look here t)
-    factor-raised (Number v q) = λ i. record { value = stays v i; relocatable = false; undefined = false }
-      where
-        stays : (v : ℕ) → v ≡ v + d * 0
-        stays v = omega arith
+    factor-raised (Number v q) = simp (mul-zero, add-zero)
     factor-raised (Symbol k q) = go (look k)
       where
-        stays : (v : ℕ) → v ≡ v + d * 0
-        stays v = omega arith
-
-        moves : (v : ℕ) → v + d ≡ v + d * 1
-        moves v = omega arith
-
         go : (e : Entry) → entryFactor (raisedEntry d e) ≡ raisedFactor (entryFactor e)
-        go (Known (Absolute a) l) = λ i. record { value = stays (a .0) i; relocatable = false; undefined = false }
-        go (Known (Relocatable a) l) = λ i. record { value = moves (a .0) i; relocatable = true; undefined = false }
-        go Unknown = λ i. record { value = stays 0 i; relocatable = false; undefined = true }
-    factor-raised (Here q) = λ i. record { value = moves i; relocatable = true; undefined = false }
-      where
-        moves : here + d ≡ here + d * 1
-        moves = omega arith
-    factor-raised (Bad q) = λ i. record { value = stays i; relocatable = false; undefined = false }
-      where
-        stays : 0 ≡ 0 + d * 0
-        stays = omega arith
+        go (Known (Absolute a) l) = simp (mul-zero, add-zero)
+        go (Known (Relocatable a) l) = simp mul-one
+        go Unknown = simp (mul-zero, add-zero)
+    factor-raised (Here q) = simp mul-one
+    factor-raised (Bad q) = simp (mul-zero, add-zero)
 
     factors-raised : (xs : List Placed) → map (placedFactor (raisedLook d look) (here + d)) xs ≡ map raisedFactor (map (placedFactor look here) xs)
     factors-raised [] = refl
@@ -116,23 +101,13 @@ module _ (d : ℕ) where
 
   -- WHAT IS ADDED AND SUBTRACTED
 
-  either-left : (a b : Bool) → either a b ≡ false → a ≡ false
-  either-left true b e = e
-  either-left false b e = refl
-
-  either-right : (a b : Bool) → either a b ≡ false → b ≡ false
-  either-right true b e = clash (cc)
-  either-right false b e = e
-
-  still-one : (f : Factor) → f .relocatable ≡ false → raisedFactor f ≡ f
-  still-one f e = ap (λ (n : ℕ). record { value = n; relocatable = f .relocatable; undefined = f .undefined }) (rw e (omega arith))
-
   -- factors none of which is relocatable stay
   still : (fs : List Factor) → anyRelocatable fs ≡ false → map raisedFactor fs ≡ fs
   unfolding anyRelocatable
   still [] e = refl
   still (f ∷ fs) e =
-      rw (still-one f (either-left (f .relocatable) (anyRelocatable fs) e), still fs (either-right (f .relocatable) (anyRelocatable fs) e))
+      let (no-place, others) = either-false (f .relocatable) (anyRelocatable fs) e in
+      rw (still fs others, no-place, mul-zero, add-zero, ← no-place)
 
   -- a product with no relocatable factor stays; a relocatable term alone is d higher
   worth-raised : (p : Product Factor) → mixed p ≡ false → worth (raisedProduct p) ≡ worth p + d * counted (alone p)
@@ -158,27 +133,18 @@ module _ (d : ℕ) where
   if-minus true w c = refl
   if-minus false w c = omega arith
 
-  added-raised : (xs : List (Addend Factor)) → anyMixed xs ≡ false → added (map raisedAddend xs) ≡ added xs + d * afterPlus xs
-  unfolding anyMixed added afterPlus
-  added-raised [] e = omega arith
-  added-raised (x ∷ xs) e =
-      let w = worth-raised (x .product) (either-left (mixed (x .product)) (anyMixed xs) e) in
-      let r = added-raised xs (either-right (mixed (x .product)) (anyMixed xs) e) in
+  sums-raised : (xs : List (Addend Factor)) → anyMixed xs ≡ false
+      → (added (map raisedAddend xs) ≡ added xs + d * afterPlus xs) × (subtracted (map raisedAddend xs) ≡ subtracted xs + d * afterMinus xs)
+  unfolding anyMixed added subtracted afterPlus afterMinus
+  sums-raised [] e = (omega arith, omega arith)
+  sums-raised (x ∷ xs) e =
+      let (one, others) = either-false (mixed (x .product)) (anyMixed xs) e in
+      let w = worth-raised (x .product) one in
       let c = counted (alone (x .product)) in
-      let f : ifPlus (x .minus) (worth (raisedProduct (x .product))) ≡ ifPlus (x .minus) (worth (x .product)) + d * ifPlus (x .minus) c = ap (ifPlus (x .minus)) w ∙ if-plus (x .minus) (worth (x .product)) c in
-      let g : d * (ifPlus (x .minus) c + afterPlus xs) ≡ d * ifPlus (x .minus) c + d * afterPlus xs = mul-add d (ifPlus (x .minus) c) (afterPlus xs) in
-      omega arith
-
-  subtracted-raised : (xs : List (Addend Factor)) → anyMixed xs ≡ false → subtracted (map raisedAddend xs) ≡ subtracted xs + d * afterMinus xs
-  unfolding anyMixed subtracted afterMinus
-  subtracted-raised [] e = omega arith
-  subtracted-raised (x ∷ xs) e =
-      let w = worth-raised (x .product) (either-left (mixed (x .product)) (anyMixed xs) e) in
-      let r = subtracted-raised xs (either-right (mixed (x .product)) (anyMixed xs) e) in
-      let c = counted (alone (x .product)) in
-      let f : ifMinus (x .minus) (worth (raisedProduct (x .product))) ≡ ifMinus (x .minus) (worth (x .product)) + d * ifMinus (x .minus) c = ap (ifMinus (x .minus)) w ∙ if-minus (x .minus) (worth (x .product)) c in
-      let g : d * (ifMinus (x .minus) c + afterMinus xs) ≡ d * ifMinus (x .minus) c + d * afterMinus xs = mul-add d (ifMinus (x .minus) c) (afterMinus xs) in
-      omega arith
+      let (p, m) = sums-raised xs others in
+      let f = ap (ifPlus (x .minus)) w ∙ if-plus (x .minus) (worth (x .product)) c in
+      let g = ap (ifMinus (x .minus)) w ∙ if-minus (x .minus) (worth (x .product)) c in
+      (omega arith, omega arith)
 
   -- KINDS
 
@@ -209,36 +175,29 @@ module _ (d : ℕ) where
 
   -- VALUES
 
+  good-value : (o under over : Bool) (k : Kind) (u v : Value) → pick (either o (either under over)) (OutOfRange k) (Good u) ≡ Good v → (under ≡ false) × (v ≡ u)
+  good-value true under over k u v e = clash (cc)
+  good-value false true over k u v e = clash (cc)
+  good-value false false true k u v e = clash (cc)
+  good-value false false false k u v e = (refl, cc)
+
   good-absolute : (s : Sum) (v : Value) → absoluteOf s ≡ Good v
       → (s .subtracted ≤ s .added + 65536) × (v ≡ Absolute (record { 0 = (s .added + 65536 - s .subtracted) % 65536 }))
-  good-absolute s v e = go (s .out) (ltb (s .added + 65536) (s .subtracted)) refl (ltb (s .subtracted + 65535) (s .added)) e
-    where
-      go : (o a : Bool) → ltb (s .added + 65536) (s .subtracted) ≡ a → (b : Bool)
-          → pick (either o (either a b)) (OutOfRange Kind.Absolute) (Good (Absolute (record { 0 = (s .added + 65536 - s .subtracted) % 65536 }))) ≡ Good v
-          → (s .subtracted ≤ s .added + 65536) × (v ≡ Absolute (record { 0 = (s .added + 65536 - s .subtracted) % 65536 }))
-      go true a h b e = clash (cc)
-      go false true h b e = clash (cc)
-      go false false h true e = clash (cc)
-      go false false h false e = (ltb-false (s .added + 65536) (s .subtracted) h, cc)
+  good-absolute s v e =
+      let (h, is) = good-value (s .out) (ltb (s .added + 65536) (s .subtracted)) (ltb (s .subtracted + 65535) (s .added)) Kind.Absolute (Absolute (record { 0 = (s .added + 65536 - s .subtracted) % 65536 })) v e in
+      (ltb-false (s .added + 65536) (s .subtracted) h, is)
 
   good-relocatable : (s : Sum) (v : Value) → relocatableOf s ≡ Good v → (s .subtracted ≤ s .added) × (v ≡ Relocatable (record { 0 = s .added - s .subtracted }))
-  good-relocatable s v e = go (s .out) (ltb (s .added) (s .subtracted)) refl (ltb (s .subtracted + 65535) (s .added)) e
-    where
-      go : (o a : Bool) → ltb (s .added) (s .subtracted) ≡ a → (b : Bool)
-          → pick (either o (either a b)) (OutOfRange Kind.Relocatable) (Good (Relocatable (record { 0 = s .added - s .subtracted }))) ≡ Good v
-          → (s .subtracted ≤ s .added) × (v ≡ Relocatable (record { 0 = s .added - s .subtracted }))
-      go true a h b e = clash (cc)
-      go false true h b e = clash (cc)
-      go false false h true e = clash (cc)
-      go false false h false e = (ltb-false (s .added) (s .subtracted) h, cc)
+  good-relocatable s v e =
+      let (h, is) = good-value (s .out) (ltb (s .added) (s .subtracted)) (ltb (s .subtracted + 65535) (s .added)) Kind.Relocatable (Relocatable (record { 0 = s .added - s .subtracted })) v e in
+      (ltb-false (s .added) (s .subtracted) h, is)
 
   module _ (xs : List (Addend Factor)) (v w : Value) (m : anyMixed xs ≡ false) where
     absolute-stays : afterPlus xs ≡ afterMinus xs → absoluteOf (sumOf xs) ≡ Good v → absoluteOf (sumOf (map raisedAddend xs)) ≡ Good w → w ≡ raisedValue d v
     absolute-stays k e f =
         let (l, i) = good-absolute (sumOf xs) v e in
-        let (n, j) = good-absolute (sumOf (map raisedAddend xs)) w f in
-        let a = added-raised xs m in
-        let s = subtracted-raised xs m in
+        let (l′, j) = good-absolute (sumOf (map raisedAddend xs)) w f in
+        let (a, s) = sums-raised xs m in
         let c : d * afterPlus xs ≡ d * afterMinus xs = ap (λ (n : ℕ). d * n) k in
         let q : (added (map raisedAddend xs) + 65536 - subtracted (map raisedAddend xs)) % 65536 ≡ (added xs + 65536 - subtracted xs) % 65536 = ap (λ (n : ℕ). n % 65536) (omega arith) in
         j ∙ ap (λ (n : ℕ). Absolute (record { 0 = n })) q ∙ sym (ap (raisedValue d) i)
@@ -246,9 +205,8 @@ module _ (d : ℕ) where
     relocatable-moves : afterPlus xs ≡ afterMinus xs + 1 → relocatableOf (sumOf xs) ≡ Good v → relocatableOf (sumOf (map raisedAddend xs)) ≡ Good w → w ≡ raisedValue d v
     relocatable-moves k e f =
         let (l, i) = good-relocatable (sumOf xs) v e in
-        let (n, j) = good-relocatable (sumOf (map raisedAddend xs)) w f in
-        let a = added-raised xs m in
-        let s = subtracted-raised xs m in
+        let (l′, j) = good-relocatable (sumOf (map raisedAddend xs)) w f in
+        let (a, s) = sums-raised xs m in
         let c : d * afterPlus xs ≡ d * afterMinus xs + d * 1 = ap (λ (n : ℕ). d * n) k ∙ mul-add d (afterMinus xs) 1 in
         let q : added (map raisedAddend xs) - subtracted (map raisedAddend xs) ≡ added xs - subtracted xs + d = omega arith in
         j ∙ ap (λ (n : ℕ). Relocatable (record { 0 = n })) q ∙ sym (ap (raisedValue d) i)

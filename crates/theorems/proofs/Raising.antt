@@ -76,35 +76,20 @@ is19 w undefined = false
 is19 w noKind = true
 is19 w (ofKind k) = not (suits w k)
 
-told-18 : (w : Wanted) (e : Evaluated) → eqb (refusalFor w e) 18 ≡ is18 (sortOf e)
-told-18 w (Good v) = go (suits w (kindOf v))
+told : (w : Wanted) (e : Evaluated) → (eqb (refusalFor w e) 18 ≡ is18 (sortOf e)) × (eqb (refusalFor w e) 19 ≡ is19 w (sortOf e))
+told w (Good v) = go (suits w (kindOf v))
   where
-    go : (b : Bool) → eqb (pick b 0 19) 18 ≡ false
-    go true = refl
-    go false = refl
-told-18 w Malformed = refl
-told-18 w Undefined = refl
-told-18 w WrongKind = refl
-told-18 w (OutOfRange k) = go (suits w k)
+    go : (b : Bool) → (eqb (pick b 0 19) 18 ≡ false) × (eqb (pick b 0 19) 19 ≡ not b)
+    go true = (refl, refl)
+    go false = (refl, refl)
+told w Malformed = (refl, refl)
+told w Undefined = (refl, refl)
+told w WrongKind = (refl, refl)
+told w (OutOfRange k) = go (suits w k)
   where
-    go : (b : Bool) → eqb (pick b 20 19) 18 ≡ false
-    go true = refl
-    go false = refl
-
-told-19 : (w : Wanted) (e : Evaluated) → eqb (refusalFor w e) 19 ≡ is19 w (sortOf e)
-told-19 w (Good v) = go (suits w (kindOf v))
-  where
-    go : (b : Bool) → eqb (pick b 0 19) 19 ≡ not b
-    go true = refl
-    go false = refl
-told-19 w Malformed = refl
-told-19 w Undefined = refl
-told-19 w WrongKind = refl
-told-19 w (OutOfRange k) = go (suits w k)
-  where
-    go : (b : Bool) → eqb (pick b 20 19) 19 ≡ not b
-    go true = refl
-    go false = refl
+    go : (b : Bool) → (eqb (pick b 20 19) 18 ≡ false) × (eqb (pick b 20 19) 19 ≡ not b)
+    go true = (refl, refl)
+    go false = (refl, refl)
 
 -- THE LAW, over the names of an assembly
 
@@ -112,6 +97,9 @@ look-raised : (d : ℕ) (ns : List Name) → find (map (raisedName d) ns) ≡ ra
 look-raised d ns = fun-ext (find-raised d ns)
 
 module _ (d : ℕ) (ns : List Name) (here : ℕ) (e : Read (List (Addend Placed))) where
+  abbrev raised : Evaluated
+  raised = evaluated (find (map (raisedName d) ns)) (here + d) e
+
   -- where both have a value, an absolute one stays and a relocatable one is d higher
   pub expression-raised : (v w : Value) → evaluated (find ns) here e ≡ Good v → evaluated (find (map (raisedName d) ns)) (here + d) e ≡ Good w → w ≡ raisedValue d v
   expression-raised v w p q = value-raised d (find ns) here e v w p (rw (look-raised d ns) at q)
@@ -122,12 +110,10 @@ module _ (d : ℕ) (ns : List Name) (here : ℕ) (e : Read (List (Addend Placed)
 
   -- refusal 18, and 19 at a place that wants any kind or one of them
   pub refusal-18-raised : (w : Wanted) → eqb (refusalFor w (evaluated (find (map (raisedName d) ns)) (here + d) e)) 18 ≡ eqb (refusalFor w (evaluated (find ns) here e)) 18
-  refusal-18-raised w =
-      told-18 w (evaluated (find (map (raisedName d) ns)) (here + d) e) ∙ ap is18 kind-raised ∙ sym (told-18 w (evaluated (find ns) here e))
+  refusal-18-raised w = told w raised .0 ∙ ap is18 kind-raised ∙ sym (told w (evaluated (find ns) here e) .0)
 
   pub refusal-19-raised : (w : Wanted) → eqb (refusalFor w (evaluated (find (map (raisedName d) ns)) (here + d) e)) 19 ≡ eqb (refusalFor w (evaluated (find ns) here e)) 19
-  refusal-19-raised w =
-      told-19 w (evaluated (find (map (raisedName d) ns)) (here + d) e) ∙ ap (is19 w) kind-raised ∙ sym (told-19 w (evaluated (find ns) here e))
+  refusal-19-raised w = told w raised .1 ∙ ap (is19 w) kind-raised ∙ sym (told w (evaluated (find ns) here e) .1)
 
   -- the positions of the names that are not defined
   pub undefined-raised : undefinedAt (find (map (raisedName d) ns)) (here + d) e ≡ undefinedAt (find ns) here e
