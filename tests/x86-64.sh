@@ -2,6 +2,8 @@
 # Elsewhere the Rattle kit has the compiler, the C library and an emulator.
 #   x86_64_cc WORD...   compiles and links, as cc does
 #   x86_64_under        the words, if any, to put before a program to run it
+# shellcheck shell=bash
+# shellcheck disable=SC2034 # x86_64_under is for the scripts that read this file
 
 if [ "$(uname -m)" = x86_64 ]; then
     x86_64_under=''

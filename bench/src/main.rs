@@ -3,9 +3,10 @@
 mod deck;
 mod library;
 
+use model::assemble::{assemble, assemble_into, WORK};
+use model::packed::packed_assembly;
 use std::time::Instant;
 
-const WORK: usize = 8192;
 const OUT: usize = 1 << 20;
 const RUNS: usize = 41;
 const CARDS: [usize; 4] = [400, 1000, 2000, 4000];
@@ -28,18 +29,17 @@ fn middle(mut call: impl FnMut()) -> f64 {
 fn compare(cards: usize, names: usize) -> (f64, f64) {
     let source = deck::of(cards, names);
     let (mut work, mut out) = (vec![0xA5; WORK], vec![0x5A; OUT]);
-    let made = model::assemble::assemble(80, &source, WORK, OUT)
-        .unwrap_or_else(|no| panic!("the model refuses {} at card {}", no.number, no.card));
+    let made = assemble(80, &source, WORK, OUT);
     let answer = library::assemble(80, &source, &mut work, &mut out);
-    let expected = made.book.len() as u64 | u64::from(made.names) << 32;
-    assert_eq!(answer, expected, "{cards} cards, {names} names: the answers differ");
-    assert_eq!(out[..made.book.len()], made.book, "{cards} cards, {names} names: the books differ");
+    assert_eq!(answer, packed_assembly(&made), "{cards} cards, {names} names: the answers differ");
+    let book = made.unwrap_or_else(|no| panic!("refused {} at card {}", no.number, no.card)).book;
+    assert_eq!(out[..book.len()], book, "{cards} cards, {names} names: the books differ");
 
     let library = middle(|| {
         library::assemble(80, &source, &mut work, &mut out);
     });
     let model = middle(|| {
-        model::assemble::assemble_into(80, &source, &mut work, &mut out).ok();
+        assemble_into(80, &source, &mut work, &mut out).ok();
     });
     (library, model)
 }

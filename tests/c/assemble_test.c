@@ -96,13 +96,13 @@ static int passes(const struct test *test)
 
     fill(&source, 0);
     source.length = punch(test->cards, test->width, source.raw + GUARD);
-    memcpy(source.wanted, source.raw, sizeof source.raw);
+    want_as_is(&source);
     fill(&work, test->work);
-    memcpy(work.wanted, work.raw, sizeof work.raw);
+    want_as_is(&work);
     if (test->refusal == MERSCLUND_ACCEPTED || test->refusal > MERSCLUND_REFUSED_WORK)
         memset(work.wanted + GUARD, 0, WORK);
     fill(&out, test->out);
-    memcpy(out.wanted, out.raw, sizeof out.raw);
+    want_as_is(&out);
     length = bytes_of(test->book, out.wanted + GUARD);
 
     answer = mersclund_assemble(test->width, source.raw + GUARD, source.length,

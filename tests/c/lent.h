@@ -44,6 +44,12 @@ static inline void fill(struct lent *lent, size_t length)
     lent->length = length;
 }
 
+/* Asks that the call leave every byte as it is now. */
+static inline void want_as_is(struct lent *lent)
+{
+    memcpy(lent->wanted, lent->raw, sizeof lent->raw);
+}
+
 /* Says whether the whole buffer, guards included, is what it must be. */
 static inline int kept(const struct lent *lent)
 {

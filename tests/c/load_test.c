@@ -137,9 +137,9 @@ static int passes(const struct test *test)
 
     fill(&book, 0);
     book.length = bytes_of(test->book, book.raw + GUARD);
-    memcpy(book.wanted, book.raw, sizeof book.raw);
+    want_as_is(&book);
     fill(&storage, test->storage);
-    memcpy(storage.wanted, storage.raw, sizeof storage.raw);
+    want_as_is(&storage);
     for (i = 0; i < CHANGES && test->changes[i].bytes != NULL; i++)
         bytes_of(test->changes[i].bytes, storage.wanted + GUARD + test->changes[i].at);
 

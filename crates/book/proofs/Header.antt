@@ -1,12 +1,10 @@
 -- Laws on a book's header: one for each test that fails, and two for all that pass.
 use Prim.Native.Nat.{ℕ, _+_, _≤_, _<_}
 use mathlib.Core.List.{List}
-use mathlib.Core.Path.{_≡_, refl}
-use mathlib.Core.Bool.{Bool, true, false}
+use mathlib.Core.Path.{_≡_}
+use mathlib.Core.Bool.{false}
 use lib.ListN.{length, getD}
-use lib.Dec.{eqb}
 use borrow.Author.Tests.{le-leb, lt-leb, eq-eqb, ne-eqb}
-use Rattle.values.specs.Tests.{pick}
 use Rattle.values.specs.Words.{word, long}
 use Rattle.values.proofs.Laws.{both-false}
 use Rattle.book.specs.declared.Entry.the-variants.{Absent, At}

@@ -1,21 +1,19 @@
 -- Laws on the definitions of the book: one for each test that fails, one for all that pass, and back.
-use Prim.Native.Nat.{ℕ, zero, suc, _+_, _-_, _*_, _≤_, _<_}
+use Prim.Native.Nat.{ℕ, suc, _+_, _-_, _*_, _≤_, _<_}
 use mathlib.Core.List.{List, [], _∷_}
-use mathlib.Core.Path.{_≡_, refl, sym, ap, _∙_}
+use mathlib.Core.Path.{_≡_, refl}
 use mathlib.Core.Bool.{Bool, true, false}
 use native.Mathlib.Omega.{arith}
-use lib.ListN.{length, getD, take, drop}
-use lib.Dec.{ltb, leb, eqb}
-use borrow.Author.Tests.{lt-ltb, le-ltb, le-leb, lt-leb, eq-eqb, ne-eqb, leb-true, ltb-true, eqb-true}
-use Rattle.values.specs.Tests.{pick, both}
-use Rattle.values.specs.Words.{word, long, part}
-use Rattle.values.proofs.Laws.{held, both-false, both-true, part-length}
-use Rattle.book.specs.declared.Cursor.{Cursor}
-use Rattle.book.specs.declared.Place.{Place}
+use lib.ListN.{length, take, drop}
+use lib.Dec.{leb}
+use borrow.Author.Tests.{lt-ltb, le-ltb, le-leb, lt-leb, eq-eqb, ne-eqb, leb-true}
+use Rattle.values.specs.Tests.{both}
+use Rattle.values.specs.Words.{part}
+use Rattle.values.proofs.Laws.{clash, held, both-false, both-true, part-length}
 use Rattle.book.specs.declared.Step.{Step}
 use Rattle.book.specs.declared.Step.the-variants.{End, Broken}
-use Rattle.book.specs.Book.{Record, fieldsFit, fair, recordOk, restAt, cardAt, addressAt, countAt, sizeAt, textAt, nextAt, recordAt}
-use Rattle.book.specs.Reading.{stepAt, placeAt, behind, recordOf, Sound}
+use Rattle.book.specs.Book.{Record, fieldsFit, fair, recordOk, restHead, recordHead, restAt, cardAt, addressAt, countAt, sizeAt, textAt, nextAt, recordAt}
+use Rattle.book.specs.Reading.{stepAt, placeAt, behind}
 
 -- FIELDS
 
@@ -100,28 +98,28 @@ module _ (last : ℕ) (r : Record) where
     where
       passed : (b : Bool) → fieldsFit 0 (length (r .text)) (r .fields) ≡ b → fieldsFit 0 (length (r .text)) (r .fields) ≡ true
       passed true h = h
-      passed false h = let q = unfair-fields h in let z : _≡_ {A = ℕ} 0 1 = cc in absurd (omega arith)
+      passed false h = let q = unfair-fields h in clash (cc)
 
 -- A RECORD AT A PLACE
 
 module _ (s : List ℕ) (at last : ℕ) where
-  pub text-length : nextAt s at ≤ length s → 5 + countAt s at ≤ restAt s at → length (recordAt s at .text) ≡ sizeAt s at
+  pub text-length : nextAt s at ≤ length s → restHead + countAt s at ≤ restAt s at → length (recordAt s at .text) ≡ sizeAt s at
   text-length h k = part-length s (textAt s at) (sizeAt s at) (omega arith)
 
   pub no-rest : length s < nextAt s at → recordOk s at last ≡ false
   unfolding recordOk
   no-rest h = rw (lt-leb _ _ h)
 
-  pub no-count : restAt s at < 5 + countAt s at → recordOk s at last ≡ false
+  pub no-count : restAt s at < restHead + countAt s at → recordOk s at last ≡ false
   unfolding recordOk
   no-count h = simp (lt-leb _ _ h, both-false)
 
   -- where its parts are all there, the rest is a matter of the record
-  pub by-record : (nextAt s at ≤ length s → 5 + countAt s at ≤ restAt s at → fair last (recordAt s at) ≡ false) → recordOk s at last ≡ false
+  pub by-record : (nextAt s at ≤ length s → restHead + countAt s at ≤ restAt s at → fair last (recordAt s at) ≡ false) → recordOk s at last ≡ false
   unfolding recordOk
-  by-record n = go (leb (nextAt s at) (length s)) (leb (5 + countAt s at) (restAt s at)) refl refl
+  by-record n = go (leb (nextAt s at) (length s)) (leb (restHead + countAt s at) (restAt s at)) refl refl
     where
-      go : (a b : Bool) → leb (nextAt s at) (length s) ≡ a → leb (5 + countAt s at) (restAt s at) ≡ b → both a (both b (fair last (recordAt s at))) ≡ false
+      go : (a b : Bool) → leb (nextAt s at) (length s) ≡ a → leb (restHead + countAt s at) (restAt s at) ≡ b → both a (both b (fair last (recordAt s at))) ≡ false
       go true true h k = n (leb-true _ _ h) (leb-true _ _ k)
       go true false h k = refl
       go false b h k = refl
@@ -129,7 +127,7 @@ module _ (s : List ℕ) (at last : ℕ) where
   pub no-head : length s < at + 8 → recordOk s at last ≡ false
   no-head h = by-record (λ a b. unfair-none last (recordAt s at) (omega (arith, text-length a b)))
 
-  pub no-text : restAt s at < 6 + countAt s at → recordOk s at last ≡ false
+  pub no-text : restAt s at ≤ restHead + countAt s at → recordOk s at last ≡ false
   no-text h = by-record (λ a b. unfair-none last (recordAt s at) (omega (arith, text-length a b)))
 
   pub too-long : 256 < sizeAt s at → recordOk s at last ≡ false
@@ -144,13 +142,13 @@ module _ (s : List ℕ) (at last : ℕ) where
   pub too-high : 65536 < addressAt s at + sizeAt s at → recordOk s at last ≡ false
   too-high h = by-record (λ a b. unfair-high last (recordAt s at) (omega (arith, text-length a b)))
 
-  pub no-fields : fieldsFit 0 (sizeAt s at) (part s (at + 7) (countAt s at)) ≡ false → recordOk s at last ≡ false
+  pub no-fields : fieldsFit 0 (sizeAt s at) (part s (at + recordHead) (countAt s at)) ≡ false → recordOk s at last ≡ false
   no-fields h = by-record (λ a b. unfair-fields last (recordAt s at) (rw (text-length a b) h))
 
   -- what a record in order at a place is
   pub record Whole : Type 0 where
     pub rest : nextAt s at ≤ length s
-    pub count : 5 + countAt s at ≤ restAt s at
+    pub count : restHead + countAt s at ≤ restAt s at
     pub is : Fair last (recordAt s at)
 
   pub is-whole : Whole → recordOk s at last ≡ true
@@ -167,11 +165,11 @@ module _ (s : List ℕ) (at last : ℕ) where
     where
       passed : (b : Bool) → fair last (recordAt s at) ≡ b → fair last (recordAt s at) ≡ true
       passed true h = h
-      passed false h = let q = by-record (λ _ _. h) in let z : _≡_ {A = ℕ} 0 1 = cc in absurd (omega arith)
+      passed false h = let q = by-record (λ _ _. h) in clash (cc)
 
   -- every test passed
-  pub all-passed : nextAt s at ≤ length s → 6 + countAt s at ≤ restAt s at → sizeAt s at ≤ 256 → last < cardAt s at → cardAt s at ≤ 4000
-      → addressAt s at + sizeAt s at ≤ 65536 → fieldsFit 0 (sizeAt s at) (part s (at + 7) (countAt s at)) ≡ true → recordOk s at last ≡ true
+  pub all-passed : nextAt s at ≤ length s → restHead + countAt s at < restAt s at → sizeAt s at ≤ 256 → last < cardAt s at → cardAt s at ≤ 4000
+      → addressAt s at + sizeAt s at ≤ 65536 → fieldsFit 0 (sizeAt s at) (part s (at + recordHead) (countAt s at)) ≡ true → recordOk s at last ≡ true
   all-passed rest count short rise card high inside =
       let n = text-length rest (omega arith) in
       is-whole (record {
@@ -182,8 +180,8 @@ module _ (s : List ℕ) (at last : ℕ) where
 
   -- the offsets as they are lent to the test of the fields
   pub fields-lent : (rest count : ℕ) → rest ≡ restAt s at → count ≡ countAt s at
-      → fieldsFit 0 (rest - (5 + count)) (take (at + 7 + count - (at + 7)) (drop (at + 7) s)) ≡ fieldsFit 0 (sizeAt s at) (part s (at + 7) (countAt s at))
-  fields-lent rest count r n = let e : at + 7 + countAt s at - (at + 7) ≡ countAt s at = omega arith in rw (r, n, e)
+      → fieldsFit 0 (rest - (restHead + count)) (take (at + recordHead + count - (at + recordHead)) (drop (at + recordHead) s)) ≡ fieldsFit 0 (sizeAt s at) (part s (at + recordHead) (countAt s at))
+  fields-lent rest count r n = let e : at + recordHead + countAt s at - (at + recordHead) ≡ countAt s at = omega arith in rw (r, n, e)
 
   -- what the reader answers
 
@@ -203,7 +201,7 @@ module _ (s : List ℕ) (at last : ℕ) where
   pub step-found : (rest card address count : ℕ) → rest ≡ restAt s at → card ≡ cardAt s at → address ≡ addressAt s at → count ≡ countAt s at
       → (at ≡ length s → ⊥) → recordOk s at last ≡ true
       → Step.Record
-      (record { card = card; address = record { 0 = address }; fields = at + 7; count = count; text = at + 7 + count; size = rest - (5 + count) })
+      (record { card = card; address = record { 0 = address }; fields = at + recordHead; count = count; text = at + recordHead + count; size = rest - (restHead + count) })
       (record { at = at + 2 + rest; card = card })
       ≡ stepAt s at last
   step-found rest card address count r c a n h e = rw (r, c, a, n) (step-record h e)

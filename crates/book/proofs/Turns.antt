@@ -8,6 +8,9 @@ use native.Mathlib.Omega.{arith}
 use lib.ListN.{length}
 use lib.Dec.{eqb}
 use borrow.Author.Tests.{eq-eqb, ne-eqb, eqb-true, eqb-false}
+use types.Run.{OneOf}
+use denote.Enum.Declared.{tagOf}
+use mathlib.Core.Logic.{⊎-elim}
 use Rattle.values.specs.Tests.{pick}
 use Rattle.book.specs.declared.Entry.{Entry}
 use Rattle.book.specs.declared.Cursor.{Cursor}
@@ -16,12 +19,12 @@ use Rattle.book.specs.declared.Step.{Step}
 use Rattle.book.specs.declared.Step.the-variants.{End, Broken}
 use Rattle.book.specs.declared.Layout.{Layout}
 use Rattle.book.specs.declared.Layout.the-variants.{Whole}
-use Rattle.book.specs.Book.{Record, Book, recordsFrom, onto, headerOk, entryAt, withEntry, bookOf, fieldsFit, restAt, cardAt, countAt, sizeAt, nextAt, recordAt, recordOk}
-use Rattle.book.specs.Reading.{stepAt, placeAt, behind, recordOf, headerOf, layoutOf, layoutIn, recordsOr, recordsIn, Sound}
-use Rattle.book.proofs.Laws as laws
-use Rattle.values.proofs.Laws.{held, part-length}
-use Rattle.book.proofs.Laws.{text-length, whole-is, fields-few}
+use Rattle.book.specs.Book.{Record, Book, recordsFrom, onto, headerOk, entryAt, withEntry, bookOf, recordHead, countAt, recordAt, recordOk, cardAt, nextAt}
+use Rattle.book.specs.Reading.{stepAt, placeAt, behind, recordThere, headerOf, layoutOf, layoutIn, recordsOr, recordsIn, Sound}
+use Rattle.values.proofs.Laws.{clash, held, part-length}
+use Rattle.book.proofs.Laws.{Whole as WholeAt, text-length, whole-is, fields-few}
 use Rattle.book.proofs.Header.{short-header}
+use Rattle.book.proofs.Step.{the-type}
 
 -- WHAT THE READER'S ANSWER SAYS
 
@@ -32,9 +35,9 @@ module _ (s : List ℕ) (at last : ℕ) where
     where
       go : (a b : Bool) → eqb at (length s) ≡ a → recordOk s at last ≡ b → Step.Record p c ≡ pick a End (pick b (Step.Record (placeAt s at) (behind s at)) Broken)
           → (at ≡ length s → ⊥) × (recordOk s at last ≡ true) × (p ≡ placeAt s at) × (c ≡ behind s at)
-      go true b h k q = let z : _≡_ {A = ℕ} 0 1 = cc in absurd (omega arith)
+      go true b h k q = clash (cc)
       go false true h k q = (eqb-false at (length s) h, k, cc, cc)
-      go false false h k q = let z : _≡_ {A = ℕ} 0 1 = cc in absurd (omega arith)
+      go false false h k q = clash (cc)
 
   step-is-end : End ≡ stepAt s at last → at ≡ length s
   unfolding stepAt
@@ -42,8 +45,8 @@ module _ (s : List ℕ) (at last : ℕ) where
     where
       go : (a b : Bool) → eqb at (length s) ≡ a → End ≡ pick a End (pick b (Step.Record (placeAt s at) (behind s at)) Broken) → at ≡ length s
       go true b h q = eqb-true at (length s) h
-      go false true h q = let z : _≡_ {A = ℕ} 0 1 = cc in absurd (omega arith)
-      go false false h q = let z : _≡_ {A = ℕ} 0 1 = cc in absurd (omega arith)
+      go false true h q = clash (cc)
+      go false false h q = clash (cc)
 
   step-is-broken : Broken ≡ stepAt s at last → (at ≡ length s → ⊥) × (recordOk s at last ≡ false)
   unfolding stepAt
@@ -51,14 +54,14 @@ module _ (s : List ℕ) (at last : ℕ) where
     where
       go : (a b : Bool) → eqb at (length s) ≡ a → recordOk s at last ≡ b → Broken ≡ pick a End (pick b (Step.Record (placeAt s at) (behind s at)) Broken)
           → (at ≡ length s → ⊥) × (recordOk s at last ≡ false)
-      go true b h k q = let z : _≡_ {A = ℕ} 0 1 = cc in absurd (omega arith)
-      go false true h k q = let z : _≡_ {A = ℕ} 0 1 = cc in absurd (omega arith)
+      go true b h k q = clash (cc)
+      go false true h k q = clash (cc)
       go false false h k q = (eqb-false at (length s) h, k)
 
 -- what is known of a record that the reader gave
 pub record Gave (s : List ℕ) (at last : ℕ) (p : Place) (c : Cursor) : Type 0 where
   pub sound : Sound s p
-  pub is : recordAt s at ≡ recordOf s p
+  pub is : recordAt s at ≡ recordThere s p
   pub on : at < c .at
   pub within : c .at ≤ length s
   pub rise : last < p .card
@@ -70,7 +73,7 @@ gave s at last p c e =
     let w = whole-is s at last ok in
     let f = w .is in
     let l = text-length s at last (w .rest) (w .count) in
-    let n = part-length s (at + 7) (countAt s at) (omega (arith, w .rest, w .count)) in
+    let n = part-length s (at + recordHead) (countAt s at) (omega (arith, w .rest, w .count)) in
     let few : countAt s at ≤ 128 = let q = fields-few 0 (length (recordAt s at .text)) (recordAt s at .fields) (f .inside) (omega arith) in omega (arith, q, f .short) in
     rw (is-p, is-c)
     (record {
@@ -95,7 +98,7 @@ gave s at last p c e =
 
 module _ (s : List ℕ) (at last : ℕ) where
   pub turn-record : (f : ℕ) (p : Place) (c : Cursor) → Step.Record p c ≡ stepAt s at last
-      → recordsFrom (suc f) s at last ≡ onto (recordOf s p) (recordsFrom f s (c .at) (c .card))
+      → recordsFrom (suc f) s at last ≡ onto (recordThere s p) (recordsFrom f s (c .at) (c .card))
   unfolding recordsFrom
   turn-record f p c e =
       let (n, ok, is-p, is-c) = step-is-record s at last p c e in
@@ -109,6 +112,24 @@ module _ (s : List ℕ) (at last : ℕ) where
   unfolding recordsFrom
   turn-broken zero e = refl
   turn-broken (suc f) e = let (n, bad) = step-is-broken s at last e in rw (ne-eqb _ _ n, bad)
+
+-- what holds at the end, and of a record with those behind it where it holds of these, holds of the records from a place on
+pub by-records : (s : List ℕ) (P : ℕ → ℕ → List Record → Type 0) → ((last : ℕ) → P (length s) last [])
+    → ((at last : ℕ) (rest : List Record) → WholeAt s at last → P (nextAt s at) (cardAt s at) rest → P at last (recordAt s at ∷ rest))
+    → (n at last : ℕ) (rs : List Record) → recordsFrom n s at last ≡ some rs → P at last rs
+unfolding recordsFrom
+by-records s P end more zero at last rs h = clash (cc)
+by-records s P end more (suc n) at last rs h =
+    go (eqb at (length s)) refl (recordOk s at last) refl (recordsFrom n s (nextAt s at) (cardAt s at)) (by-records s P end more n (nextAt s at) (cardAt s at)) h
+  where
+    go : (x : Bool) → eqb at (length s) ≡ x → (y : Bool) → recordOk s at last ≡ y → (o : Option (List Record)) → ((qs : List Record) → o ≡ some qs → P (nextAt s at) (cardAt s at) qs)
+        → pick x (some []) (pick y (onto (recordAt s at) o) none) ≡ some rs → P at last rs
+    go true e y f o ih h =
+        let is : [] ≡ rs = cc in
+        subst (P at last) is (subst (λ i. P i last []) (sym (eqb-true at (length s) e)) (end last))
+    go false e true f none ih h = clash (cc)
+    go false e true f (some qs) ih h = let is : recordAt s at ∷ qs ≡ rs = cc in subst (P at last) is (more at last qs (whole-is s at last f) (ih qs refl))
+    go false e false f o ih h = clash (cc)
 
 -- THE LAYOUT
 
@@ -126,7 +147,7 @@ module _ (s : List ℕ) where
     where
       go : (b : Bool) → headerOk s ≡ b → Whole e ≡ pick b (Whole (entryAt s)) Layout.Broken → (headerOk s ≡ true) × (e ≡ entryAt s)
       go true h k = (h, cc)
-      go false h k = let z : _≡_ {A = ℕ} 0 1 = cc in absurd (omega arith)
+      go false h k = clash (cc)
 
   pub layout-start : (e : Entry) → Whole e ≡ headerOf s → LayoutLeft s e 8 0
   unfolding layoutOf bookOf
@@ -141,7 +162,7 @@ module _ (s : List ℕ) where
     where
       go : (b : Bool) → headerOk s ≡ b → Layout.Broken ≡ pick b (Whole (entryAt s)) Layout.Broken
           → Layout.Broken ≡ layoutIn (pick b (withEntry (entryAt s) (recordsFrom (length s) s 8 0)) none)
-      go true h k = let z : _≡_ {A = ℕ} 0 1 = cc in absurd (omega arith)
+      go true h k = clash (cc)
       go false h k = refl
 
 module _ (s : List ℕ) (e : Entry) (at last : ℕ) (l : LayoutLeft s e at last) where
@@ -155,7 +176,7 @@ module _ (s : List ℕ) (e : Entry) (at last : ℕ) (l : LayoutLeft s e at last)
         f - 1,
         omega arith,
         same ∙ ap (λ n. layoutIn (withEntry e (recordsFrom n s at last))) one ∙ ap (λ o. layoutIn (withEntry e o)) (turn-record s at last (f - 1) p c q)
-            ∙ layout-onto e (recordOf s p) (recordsFrom (f - 1) s (c .at) (c .card)),
+            ∙ layout-onto e (recordThere s p) (recordsFrom (f - 1) s (c .at) (c .card)),
       )
 
   pub layout-end : End ≡ stepAt s at last → Whole e ≡ layoutOf s
@@ -178,7 +199,7 @@ Left s at last P = (f : ℕ) × (rs : List Record) × (recordsFrom f s at last �
 
 out-of-bound : (s : List ℕ) (at last : ℕ) (rs : List Record) → recordsFrom zero s at last ≡ some rs → ⊥
 unfolding recordsFrom
-out-of-bound s at last rs q = let z : _≡_ {A = ℕ} 0 1 = cc in omega arith
+out-of-bound s at last rs q = clash (cc)
 
 pub book-none : (s : List ℕ) → Layout.Broken ≡ layoutOf s → bookOf s ≡ none
 unfolding layoutOf
@@ -186,7 +207,7 @@ book-none s q = go (bookOf s) q
   where
     go : (o : Option Book) → Layout.Broken ≡ layoutIn o → o ≡ none
     go none k = refl
-    go (some b) k = let z : _≡_ {A = ℕ} 0 1 = cc in absurd (omega arith)
+    go (some b) k = clash (cc)
 
 module _ (s : List ℕ) (e : Entry) (q : Whole e ≡ layoutOf s) where
   pub book-is : bookOf s ≡ some (record { entry = e; records = recordsIn s })
@@ -194,7 +215,7 @@ module _ (s : List ℕ) (e : Entry) (q : Whole e ≡ layoutOf s) where
   book-is = go (bookOf s) refl q
     where
       go : (o : Option Book) → bookOf s ≡ o → Whole e ≡ layoutIn o → bookOf s ≡ some (record { entry = e; records = recordsOr (bookOf s) })
-      go none h k = let z : _≡_ {A = ℕ} 0 1 = cc in absurd (omega arith)
+      go none h k = clash (cc)
       go (some b) h k = let x : e ≡ b .entry = cc in rw (h, x)
 
   pub long-enough : 8 ≤ length s
@@ -203,7 +224,7 @@ module _ (s : List ℕ) (e : Entry) (q : Whole e ≡ layoutOf s) where
     where
       go : (b : Bool) → headerOk s ≡ b → pick b (withEntry (entryAt s) (recordsFrom (length s) s 8 0)) none ≡ some (record { entry = e; records = recordsIn s }) → 8 ≤ length s
       go true h k = held 8 (length s) (short-header s) h
-      go false h k = let z : _≡_ {A = ℕ} 0 1 = cc in absurd (omega arith)
+      go false h k = clash (cc)
 
   pub records-are : recordsFrom (length s) s 8 0 ≡ some (recordsIn s)
   unfolding bookOf
@@ -211,11 +232,11 @@ module _ (s : List ℕ) (e : Entry) (q : Whole e ≡ layoutOf s) where
     where
       go : (b : Bool) (o : Option (List Record)) → recordsFrom (length s) s 8 0 ≡ o → pick b (withEntry (entryAt s) o) none ≡ some (record { entry = e; records = recordsIn s })
           → recordsFrom (length s) s 8 0 ≡ some (recordsIn s)
-      go true none h k = let z : _≡_ {A = ℕ} 0 1 = cc in absurd (omega arith)
+      go true none h k = clash (cc)
       go true (some rs) h k =
           let same : _≡_ {A = Book} (record { entry = entryAt s; records = rs }) (record { entry = e; records = recordsIn s }) = cc in
           h ∙ ap (λ (b : Book). some (b .records)) same
-      go false o h k = let z : _≡_ {A = ℕ} 0 1 = cc in absurd (omega arith)
+      go false o h k = clash (cc)
 
   pub start : (P : List Record → Type 0) → P (recordsIn s) → Left s 8 0 P
   start P p = (length s, recordsIn s, records-are, p)
@@ -223,20 +244,20 @@ module _ (s : List ℕ) (e : Entry) (q : Whole e ≡ layoutOf s) where
 module _ (s : List ℕ) (at last : ℕ) (P : List Record → Type 0) (l : Left s at last P) where
   -- a record is there: it is the first of those left
   pub onward : (p : Place) (c : Cursor) (Q : List Record → Type 0) → Step.Record p c ≡ stepAt s at last
-      → ((rest : List Record) → P (recordOf s p ∷ rest) → Q rest) → Left s (c .at) (c .card) Q
+      → ((rest : List Record) → P (recordThere s p ∷ rest) → Q rest) → Left s (c .at) (c .card) Q
   onward p c Q q step = let (f, rs, is, holds) = l in go f rs is holds
     where
-      there : (f : ℕ) (rs : List Record) (o : Option (List Record)) → recordsFrom f s (c .at) (c .card) ≡ o → onto (recordOf s p) o ≡ some rs → P rs → Left s (c .at) (c .card) Q
-      there f rs none h k holds = let z : _≡_ {A = ℕ} 0 1 = cc in absurd (omega arith)
+      there : (f : ℕ) (rs : List Record) (o : Option (List Record)) → recordsFrom f s (c .at) (c .card) ≡ o → onto (recordThere s p) o ≡ some rs → P rs → Left s (c .at) (c .card) Q
+      there f rs none h k holds = clash (cc)
       there f rs (some rest) h k holds = (f, rest, h, step rest (subst P (cc) holds))
 
       go : (f : ℕ) (rs : List Record) → recordsFrom f s at last ≡ some rs → P rs → Left s (c .at) (c .card) Q
       go zero rs is holds = absurd (out-of-bound s at last rs is)
       go (suc f) rs is holds = there f rs (recordsFrom f s (c .at) (c .card)) refl (sym (turn-record s at last f p c q) ∙ is) holds
 
-  pub first : (p : Place) (c : Cursor) → Step.Record p c ≡ stepAt s at last → (rest : List Record) × P (recordOf s p ∷ rest)
+  pub first : (p : Place) (c : Cursor) → Step.Record p c ≡ stepAt s at last → (rest : List Record) × P (recordThere s p ∷ rest)
   first p c q =
-      let (f, rest, is, holds) = onward p c (λ rest. P (recordOf s p ∷ rest)) q (λ rest h. h) in
+      let (f, rest, is, holds) = onward p c (λ rest. P (recordThere s p ∷ rest)) q (λ rest h. h) in
       (rest, holds)
 
   pub ended : End ≡ stepAt s at last → P []
@@ -247,4 +268,10 @@ module _ (s : List ℕ) (at last : ℕ) (P : List Record → Type 0) (l : Left s
       go (suc f) rs is holds = subst P (cc (turn-end s at last f q)) holds
 
   pub never : Broken ≡ stepAt s at last → ⊥
-  never q = let (f, rs, is, holds) = l in let e = turn-broken s at last f q in let z : _≡_ {A = ℕ} 0 1 = cc in omega arith
+  never q = let (f, rs, is, holds) = l in let e = turn-broken s at last f q in clash (cc)
+
+  -- no record is there: it is the end
+  pub no-more : (x : Step) → OneOf (1 ∷ 2 ∷ []) (tagOf the-type x) → x ≡ stepAt s at last → P []
+  no-more (Step.Record p c) k q = absurd (⊎-elim (λ h. omega arith) (λ h. omega arith) k)
+  no-more End k q = ended q
+  no-more Broken k q = absurd (never q)

@@ -1,7 +1,7 @@
 -- The book (document 01, "The book"): a list of bytes read as an entry and records, or refused.
 use Prim.Native.Nat.{ℕ, zero, suc, _+_, _-_}
 use mathlib.Core.List.{List, [], _∷_}
-use mathlib.Core.Bool.{Bool, true, false}
+use mathlib.Core.Bool.{Bool, true}
 use mathlib.Core.Option.{Option, none, some}
 use lib.ListN.{length, getD}
 use lib.Dec.{ltb, leb, eqb}
@@ -39,7 +39,15 @@ fair last r =
     (both (leb (length (r .text)) 256)
     (both (leb (r .address + length (r .text)) 65536) (fieldsFit 0 (length (r .text)) (r .fields))))))
 
--- A RECORD AT A PLACE: the length of its rest, its card, its address, the count of its fields; behind these the offsets, the text
+-- A RECORD AT A PLACE: its head, which is the length of its rest, its card, its address, the count of its fields; behind it the offsets, the text
+
+-- how many bytes the head has, of those the length counts: card, address, count of fields
+abbrev pub restHead : ℕ
+restHead = 5
+
+-- how many bytes the whole head has, with the two of the length
+abbrev pub recordHead : ℕ
+recordHead = 2 + restHead
 
 abbrev pub restAt : List ℕ → ℕ → ℕ
 restAt s at = word s at
@@ -55,10 +63,10 @@ countAt s at = getD s (at + 6) 0
 
 -- the length of the text, the place of the text, the place behind the record
 abbrev pub sizeAt : List ℕ → ℕ → ℕ
-sizeAt s at = restAt s at - (5 + countAt s at)
+sizeAt s at = restAt s at - (restHead + countAt s at)
 
 abbrev pub textAt : List ℕ → ℕ → ℕ
-textAt s at = at + 7 + countAt s at
+textAt s at = at + recordHead + countAt s at
 
 abbrev pub nextAt : List ℕ → ℕ → ℕ
 nextAt s at = at + 2 + restAt s at
@@ -68,14 +76,14 @@ recordAt s at =
     record {
       card = cardAt s at;
       address = addressAt s at;
-      fields = part s (at + 7) (countAt s at);
+      fields = part s (at + recordHead) (countAt s at);
       text = part s (textAt s at) (sizeAt s at);
     }
 
 -- a fair record stands at a place, whole
 unfoldable pub recordOk : List ℕ → ℕ → ℕ → Bool
 recordOk s at last =
-    both (leb (nextAt s at) (length s)) (both (leb (5 + countAt s at) (restAt s at)) (fair last (recordAt s at)))
+    both (leb (nextAt s at) (length s)) (both (leb (restHead + countAt s at) (restAt s at)) (fair last (recordAt s at)))
 
 -- THE BOOK
 

@@ -1,6 +1,6 @@
 -- What the readers of a book answer.
-use Prim.Native.Nat.{ℕ, _+_, _≤_, _<_}
-use mathlib.Core.List.{List, [], _∷_}
+use Prim.Native.Nat.{ℕ, _+_, _≤_}
+use mathlib.Core.List.{List, []}
 use mathlib.Core.Path.{_≡_}
 use mathlib.Core.Bool.{true}
 use mathlib.Core.Option.{Option, none, some}
@@ -9,7 +9,6 @@ use lib.Dec.{eqb}
 use Rattle.values.specs.Tests.{pick}
 use Rattle.values.specs.Words.{part}
 use Rattle.book.specs.declared.Entry.{Entry}
-use Rattle.book.specs.declared.Entry.the-variants.{Absent}
 use Rattle.book.specs.declared.Cursor.{Cursor}
 use Rattle.book.specs.declared.Place.{Place}
 use Rattle.book.specs.declared.Step.{Step}
@@ -17,7 +16,7 @@ use Rattle.book.specs.declared.Step.the-variants.{Record, End, Broken}
 use Rattle.book.specs.declared.Layout.{Layout}
 use Rattle.book.specs.declared.Layout.the-variants.{Whole}
 use Rattle.book.specs.Book as B
-use Rattle.book.specs.Book.{Book, bookOf, fieldsFit, headerOk, entryAt, recordOk, cardAt, addressAt, countAt, sizeAt, textAt, nextAt}
+use Rattle.book.specs.Book.{Book, bookOf, fieldsFit, headerOk, entryAt, recordOk, recordHead, cardAt, addressAt, countAt, sizeAt, textAt, nextAt}
 
 -- where the parts of the record at a place stand
 abbrev pub placeAt : List ℕ → ℕ → Place
@@ -25,15 +24,15 @@ placeAt s at =
     record {
       card = cardAt s at;
       address = record { 0 = addressAt s at };
-      fields = at + 7;
+      fields = at + recordHead;
       count = countAt s at;
       text = textAt s at;
       size = sizeAt s at;
     }
 
 -- the record whose parts stand there
-abbrev pub recordOf : List ℕ → Place → B.Record
-recordOf s p =
+abbrev pub recordThere : List ℕ → Place → B.Record
+recordThere s p =
     record {
       card = p .card;
       address = p .address .0;

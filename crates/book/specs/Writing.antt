@@ -3,19 +3,25 @@ use Prim.Native.Nat.{ℕ, _+_}
 use mathlib.Core.List.{List, [], _∷_, _++_}
 use mathlib.Core.Bool.{Bool, true}
 use lib.ListN.{length}
-use lib.Dec.{leb}
-use Rattle.values.specs.Tests.{both}
+use lib.Dec.{leb, eqb}
+use Rattle.values.specs.Tests.{pick, both}
 use Rattle.values.specs.Words.{twoBytes, fourBytes}
 use Rattle.book.specs.declared.Entry.{Entry}
 use Rattle.book.specs.declared.Entry.the-variants.{Absent, At}
-use Rattle.book.specs.Book.{Record, Book, fair}
+use Rattle.book.specs.Book.{Record, Book, fair, restHead, recordHead}
 
--- the record's rest: card, address, count of fields, offsets, text
-unfoldable pub restBytes : Record → List ℕ
-restBytes r = twoBytes (r .card) ++ (twoBytes (r .address) ++ (length (r .fields) ∷ (r .fields ++ r .text)))
+-- a record's head: the length of its rest, its card, its address, the count of its fields
+abbrev pub headBytes : ℕ → ℕ → ℕ → ℕ → List ℕ
+headBytes rest card address count = twoBytes rest ++ (twoBytes card ++ (twoBytes address ++ (count ∷ [])))
 
+-- the head, the offsets, the text
 unfoldable pub recordBytes : Record → List ℕ
-recordBytes r = twoBytes (5 + length (r .fields) + length (r .text)) ++ restBytes r
+recordBytes r =
+    headBytes (restHead + length (r .fields) + length (r .text)) (r .card) (r .address) (length (r .fields)) ++ (r .fields ++ r .text)
+
+-- how many bytes the record of a text has, with so many fields: none where the text has no byte
+abbrev pub recordLength : ℕ → ℕ → ℕ
+recordLength size count = pick (eqb size 0) 0 (recordHead + count + size)
 
 unfoldable pub recordsBytes : List Record → List ℕ
 recordsBytes [] = []
@@ -26,9 +32,13 @@ abbrev pub entryBytes : Entry → List ℕ
 entryBytes Absent = 0 ∷ 0 ∷ 0 ∷ []
 entryBytes (At e) = 1 ∷ twoBytes (e .0)
 
--- the length of the rest, version 1, the entry, the records
+-- a book's header: the length of the rest, version 1, the entry
+abbrev pub headerBytes : ℕ → Entry → List ℕ
+headerBytes rest e = fourBytes rest ++ (1 ∷ entryBytes e)
+
+-- the header, the records; the rest begins behind the length
 unfoldable pub bookBytes : Book → List ℕ
-bookBytes b = fourBytes (4 + length (recordsBytes (b .records))) ++ (1 ∷ (entryBytes (b .entry) ++ recordsBytes (b .records)))
+bookBytes b = headerBytes (4 + length (recordsBytes (b .records))) (b .entry) ++ recordsBytes (b .records)
 
 -- an entry that two bytes can hold
 abbrev pub entryFits : Entry → Bool

@@ -1,7 +1,8 @@
 // The book (document 01, "The book"): its header, and its records read one at a time.
+pub mod writing;
+
 ghost use mathlib.Core.Path.{_≡_};
-ghost use Prim.Native.Nat.{_+_, _≤_, _<_};
-ghost use lib.ListN.{length};
+ghost use Prim.Native.Nat.{_+_, _<_};
 ghost use Rattle.book.specs.Book.{fieldsFit};
 ghost use Rattle.book.specs.Reading.{stepAt, headerOf, layoutOf};
 use values::Relocatable;
@@ -9,6 +10,12 @@ use values::words::long_at;
 use values::words::wide;
 use values::words::wide16;
 use values::words::word_at;
+
+// The bytes of a record's head that its length counts: card, address, count of fields.
+pub const REST_HEAD: usize = 5;
+
+// The bytes of the whole head, with the two of the length: behind it the offsets stand.
+pub const RECORD_HEAD: usize = 7;
 
 // Where the program starts, if its END card said so.
 pub enum Entry {
@@ -93,10 +100,10 @@ impl Cursor {
             return Step::Broken;
         }
         let count = wide(book[at + 6]);
-        if rest < 6 + count {
+        if rest <= REST_HEAD + count {
             return Step::Broken;
         }
-        let size = rest - (5 + count);
+        let size = rest - (REST_HEAD + count);
         if 256 < size {
             return Step::Broken;
         }
@@ -111,7 +118,7 @@ impl Cursor {
         if 65536 < wide16(address) + size {
             return Step::Broken;
         }
-        let fields = at + 7;
+        let fields = at + RECORD_HEAD;
         let text = fields + count;
         if !fields_fit(&book[fields..text], size) {
             return Step::Broken;

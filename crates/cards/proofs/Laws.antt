@@ -1,28 +1,27 @@
 -- Laws of cards: a turn of each reader, and where the fields of a card lie.
-use Prim.Native.Nat.{ℕ, zero, suc, _+_, _-_, _*_, _/_, _%_, _≤_, _<_}
+use Prim.Native.Nat.{ℕ, zero, suc, _+_, _-_, _*_, _≤_, _<_}
 use mathlib.Core.List.{List, [], _∷_}
-use mathlib.Core.Path.{_≡_, refl, sym, ap, _∙_}
+use mathlib.Core.Path.{_≡_, refl, ap, _∙_}
 use mathlib.Core.Bool.{Bool, true, false, not}
 use native.Mathlib.Nat.{not-suc-le-zero}
 use native.Mathlib.Numerals.{sub-one, add-one}
 use native.Mathlib.Omega.{arith}
-use borrow.Author.Tests.{eq-eqb, eqb-true}
-use lib.Dec.{eqb, leb}
 use lib.ListN.{length, getD, drop, drop-of-length-le}
 use lib.Seq.{drop-cons}
+use Rattle.letters.specs.Text.{stands, runEnd}
+use Rattle.letters.proofs.Runs.{run-more, run-stop, run-none, run-bounds}
 use Rattle.values.specs.Tests.{pick, both}
 use Rattle.values.specs.Words.{part}
-use Rattle.letters.specs.Letters.{classOf, isBlank, isAccepted}
-use Rattle.terms.specs.Terms.{stands}
+use Rattle.letters.specs.Letters.{classOf, isAccepted}
 use Rattle.cards.specs.Source.{columnsOf, cardsFrom}
 use Rattle.terms.specs.Names.{nameAt}
-use Rattle.terms.specs.declared.naming.Name.{Name}
-use Rattle.terms.specs.declared.naming.Name.the-variants.{Named, NoName}
+use Rattle.terms.specs.declared.naming.NameRead.{NameRead}
+use Rattle.terms.specs.declared.naming.NameRead.the-variants.{Named, NoName}
 use Rattle.terms.proofs.Within.{NameWithin, name-within}
 use Rattle.cards.specs.declared.Fields.{Fields}
 use Rattle.cards.specs.declared.Card.{Card}
 use Rattle.cards.specs.declared.Card.the-variants.{Comment, BadName, Statement}
-use Rattle.cards.specs.Fields.{allAccepted, blankAt, blanksEnd, wordEnd, turned, operandEnd, nextWord, endOfWord, endOfOperand, loneComma, fieldsFrom, nameEnds, namedCard, cardOf}
+use Rattle.cards.specs.Fields.{allAccepted, isBlankByte, blankAt, turned, operandEnd, nextWord, endOfWord, endOfOperand, loneComma, fieldsBehind, nameEnds, namedCard, cardOf}
 
 -- A TURN OF EACH READER
 
@@ -46,29 +45,17 @@ none-left : (n i : ℕ) → n ≤ i → n - i ≡ 0
 none-left n i h = omega arith
 
 module _ (s : List ℕ) (i : ℕ) where
-  pub blanks-more : i < length s → blankAt s i ≡ true → blanksEnd (length s - i) s i ≡ blanksEnd (length s - (i + 1)) s (i + 1)
-  unfolding blanksEnd
-  blanks-more h e = rw (less-left (length s) i h, e)
+  -- a turn of a reader of columns that pass a test
+  pub columns-more : (goes : ℕ → Bool) → i < length s → goes (getD s i 0) ≡ true → runEnd goes (length s - i) s i ≡ runEnd goes (length s - (i + 1)) s (i + 1)
+  columns-more goes h e =
+      let less : length s - i - 1 ≡ length s - (i + 1) = omega arith in
+      run-more goes (length s - i) s i (omega arith) e ∙ ap (λ n. runEnd goes n s (i + 1)) less
 
-  pub blanks-stop : i < length s → blankAt s i ≡ false → blanksEnd (length s - i) s i ≡ i
-  unfolding blanksEnd
-  blanks-stop h e = rw (less-left (length s) i h, e)
+  pub columns-stop : (goes : ℕ → Bool) → goes (getD s i 0) ≡ false → runEnd goes (length s - i) s i ≡ i
+  columns-stop goes e = run-stop goes (length s - i) s i e
 
-  pub blanks-none : length s ≤ i → blanksEnd (length s - i) s i ≡ i
-  unfolding blanksEnd
-  blanks-none h = rw (none-left (length s) i h)
-
-  pub word-more : i < length s → blankAt s i ≡ false → wordEnd (length s - i) s i ≡ wordEnd (length s - (i + 1)) s (i + 1)
-  unfolding wordEnd
-  word-more h e = rw (less-left (length s) i h, e)
-
-  pub word-stop : i < length s → blankAt s i ≡ true → wordEnd (length s - i) s i ≡ i
-  unfolding wordEnd
-  word-stop h e = rw (less-left (length s) i h, e)
-
-  pub word-none : length s ≤ i → wordEnd (length s - i) s i ≡ i
-  unfolding wordEnd
-  word-none h = rw (none-left (length s) i h)
+  pub columns-none : (goes : ℕ → Bool) → length s ≤ i → runEnd goes (length s - i) s i ≡ i
+  columns-none goes h = run-none goes (length s - i) s i (omega arith)
 
   pub operand-more : (inside : Bool) → i < length s → both (not inside) (blankAt s i) ≡ false
       → operandEnd (length s - i) inside s i ≡ operandEnd (length s - (i + 1)) (turned inside s i) s (i + 1)
@@ -98,25 +85,8 @@ cards-none (suc n) width s at h = absurd (not-suc-le-zero h)
 -- WHERE THE FIELDS LIE
 
 module _ (s : List ℕ) where
-  next-within : (n at : ℕ) → at + n ≤ length s → (at ≤ blanksEnd n s at) × (blanksEnd n s at ≤ length s)
-  unfolding blanksEnd
-  next-within zero at h = (omega arith, omega arith)
-  next-within (suc n) at h = go (blankAt s at) (next-within n (at + 1) (omega arith))
-    where
-      go : (x : Bool) → (at + 1 ≤ blanksEnd n s (at + 1)) × (blanksEnd n s (at + 1) ≤ length s)
-          → (at ≤ pick x (blanksEnd n s (at + 1)) at) × (pick x (blanksEnd n s (at + 1)) at ≤ length s)
-      go true ih = (omega arith, ih .1)
-      go false ih = (omega arith, omega arith)
-
-  word-within : (n at : ℕ) → at + n ≤ length s → (at ≤ wordEnd n s at) × (wordEnd n s at ≤ length s)
-  unfolding wordEnd
-  word-within zero at h = (omega arith, omega arith)
-  word-within (suc n) at h = go (blankAt s at) (word-within n (at + 1) (omega arith))
-    where
-      go : (x : Bool) → (at + 1 ≤ wordEnd n s (at + 1)) × (wordEnd n s (at + 1) ≤ length s)
-          → (at ≤ pick x at (wordEnd n s (at + 1))) × (pick x at (wordEnd n s (at + 1)) ≤ length s)
-      go true ih = (omega arith, omega arith)
-      go false ih = (omega arith, ih .1)
+  run-within : (goes : ℕ → Bool) (n at : ℕ) → at + n ≤ length s → (at ≤ runEnd goes n s at) × (runEnd goes n s at ≤ length s)
+  run-within goes n at h = let (low, high) = run-bounds goes n s at in (low, omega arith)
 
   operand-within : (n : ℕ) (inside : Bool) (at : ℕ) → at + n ≤ length s → (at ≤ operandEnd n inside s at) × (operandEnd n inside s at ≤ length s)
   unfolding operandEnd
@@ -135,14 +105,14 @@ module _ (s : List ℕ) where
     pub operand : f .operand ≤ f .end
     pub end : f .end ≤ length s
 
-  pub fields-ordered : (name at : ℕ) → at ≤ length s → Ordered (fieldsFrom name s at)
-  unfolding fieldsFrom
+  pub fields-ordered : (name at : ℕ) → at ≤ length s → Ordered (fieldsBehind name s at)
+  unfolding fieldsBehind
   fields-ordered name at h =
-      let a = next-within (length s - at) at (omega arith) in
+      let a = run-within isBlankByte (length s - at) at (omega arith) in
       let op = nextWord s at in
-      let b = word-within (length s - op) op (omega arith) in
+      let b = run-within (λ b. not (isBlankByte b)) (length s - op) op (omega arith) in
       let behind = endOfWord s op in
-      let d = next-within (length s - behind) behind (omega arith) in
+      let d = run-within isBlankByte (length s - behind) behind (omega arith) in
       let from = nextWord s behind in
       let e = operand-within (length s - from) false from (omega arith) in
       record {
@@ -166,15 +136,15 @@ module _ (s : List ℕ) where
   unfolding cardOf
   card-within = go (stands "*" s 0) (blankAt s 0)
     where
-      named : (n : Name) → NameWithin s 0 n → CardWithin (namedCard s n)
+      named : (n : NameRead) → NameWithin s 0 n → CardWithin (namedCard s n)
       named (Named number next) w = ends (nameEnds s next)
         where
-          ends : (x : Bool) → CardWithin (pick x (Statement (fieldsFrom number s next)) BadName)
+          ends : (x : Bool) → CardWithin (pick x (Statement (fieldsBehind number s next)) BadName)
           ends true = fields-ordered number next (w .1)
           ends false = tt
       named (NoName place) w = tt
 
-      go : (x y : Bool) → CardWithin (pick x Comment (pick y (Statement (fieldsFrom 0 s 0)) (namedCard s (nameAt s 0))))
+      go : (x y : Bool) → CardWithin (pick x Comment (pick y (Statement (fieldsBehind 0 s 0)) (namedCard s (nameAt s 0))))
       go true y = tt
       go false true = fields-ordered 0 0 (omega arith)
       go false false = named (nameAt s 0) (name-within s 0)

@@ -5,12 +5,12 @@ use mathlib.Core.List.{List, [], _∷_}
 use mathlib.Core.Bool.{Bool, true, false, not}
 use lib.ListN.{length, getD}
 use lib.Dec.{leb, eqb}
+use Rattle.letters.specs.Text.{stands, runEnd}
 use Rattle.values.specs.Tests.{pick, both, either}
 use Rattle.letters.specs.Letters.{classOf, isBlank, isAccepted}
-use Rattle.terms.specs.declared.naming.Name.{Name}
-use Rattle.terms.specs.declared.naming.Name.the-variants.{Named, NoName}
+use Rattle.terms.specs.declared.naming.NameRead.{NameRead}
+use Rattle.terms.specs.declared.naming.NameRead.the-variants.{Named, NoName}
 use Rattle.terms.specs.Names.{nameAt}
-use Rattle.terms.specs.Terms.{stands}
 use Rattle.cards.specs.declared.Fields.{Fields}
 use Rattle.cards.specs.declared.Card.{Card}
 use Rattle.cards.specs.declared.Card.the-variants.{Comment, BadName, Statement}
@@ -24,19 +24,20 @@ allAccepted (b ∷ bs) = both (isAccepted (classOf b)) (allAccepted bs)
 unfoldable pub byteNo : List ℕ → ℕ
 byteNo s = pick (allAccepted s) 0 10
 
+abbrev pub isBlankByte : ℕ → Bool
+isBlankByte b = isBlank (classOf b)
+
 -- a blank stands at a position
 abbrev pub blankAt : List ℕ → ℕ → Bool
-blankAt s at = isBlank (classOf (getD s at 0))
+blankAt s at = isBlankByte (getD s at 0)
 
 -- "parted by blanks": the position behind the n columns at most that are blank from a position on
-unfoldable pub blanksEnd : ℕ → List ℕ → ℕ → ℕ
-blanksEnd zero s at = at
-blanksEnd (suc n) s at = pick (blankAt s at) (blanksEnd n s (at + 1)) at
+abbrev pub blanksEnd : ℕ → List ℕ → ℕ → ℕ
+blanksEnd n s at = runEnd isBlankByte n s at
 
 -- .. and behind those that are not blank
-unfoldable pub wordEnd : ℕ → List ℕ → ℕ → ℕ
-wordEnd zero s at = at
-wordEnd (suc n) s at = pick (blankAt s at) at (wordEnd n s (at + 1))
+abbrev pub wordEnd : ℕ → List ℕ → ℕ → ℕ
+wordEnd n s at = runEnd (λ b. not (isBlankByte b)) n s at
 
 -- a position lies inside apostrophes where an odd number of them stands before it in the operand
 abbrev pub turned : Bool → List ℕ → ℕ → Bool
@@ -62,8 +63,8 @@ abbrev pub loneComma : List ℕ → ℕ → ℕ → Bool
 loneComma s from to = both (eqb to (from + 1)) (stands "," s from)
 
 -- "Operation, operand and remark follow, parted by blanks": where they lie, from a column on. An absent one ends where it starts
-unfoldable pub fieldsFrom : ℕ → List ℕ → ℕ → Fields
-fieldsFrom name s at =
+unfoldable pub fieldsBehind : ℕ → List ℕ → ℕ → Fields
+fieldsBehind name s at =
     let operation = nextWord s at in
     let behind = endOfWord s operation in
     let from = nextWord s behind in
@@ -75,10 +76,10 @@ abbrev pub nameEnds : List ℕ → ℕ → Bool
 nameEnds s at = either (leb (length s) at) (blankAt s at)
 
 -- 11: a name is all that stands in column 1 and behind it up to a blank
-abbrev pub namedCard : List ℕ → Name → Card
-namedCard s (Named number next) = pick (nameEnds s next) (Statement (fieldsFrom number s next)) BadName
+abbrev pub namedCard : List ℕ → NameRead → Card
+namedCard s (Named number next) = pick (nameEnds s next) (Statement (fieldsBehind number s next)) BadName
 namedCard s (NoName place) = BadName
 
 -- "Column 1 `*`: a comment. Else a name starts in column 1, or column 1 is blank." No name is the number 0
 unfoldable pub cardOf : List ℕ → Card
-cardOf s = pick (stands "*" s 0) Comment (pick (blankAt s 0) (Statement (fieldsFrom 0 s 0)) (namedCard s (nameAt s 0)))
+cardOf s = pick (stands "*" s 0) Comment (pick (blankAt s 0) (Statement (fieldsBehind 0 s 0)) (namedCard s (nameAt s 0)))

@@ -3,14 +3,14 @@ pub mod source;
 
 use letters::byte_at;
 use letters::class_at;
-use terms::naming::Name;
+use terms::naming::NameRead;
 ghost use mathlib.Core.Path.{_≡_};
 ghost use mathlib.Core.Bool.{false, not};
 ghost use Prim.Native.Nat.{_-_, _≤_};
 ghost use lib.ListN.{length};
 ghost use Rattle.values.specs.Tests.{pick, both};
 ghost use Rattle.terms.specs.Names.{nameAt};
-ghost use Rattle.cards.specs.Fields.{allAccepted, byteNo, blankAt, blanksEnd, wordEnd, turned, operandEnd, loneComma, fieldsFrom, nameEnds, namedCard, cardOf};
+ghost use Rattle.cards.specs.Fields.{allAccepted, byteNo, blankAt, blanksEnd, wordEnd, turned, operandEnd, loneComma, fieldsBehind, nameEnds, namedCard, cardOf};
 
 // The fields of a statement: the name's number, 0 where there is none, and where operation and operand start and end. An absent one ends where it starts.
 pub struct Fields {
@@ -128,7 +128,7 @@ fn operand_to(s: &[u8], from: usize, to: usize) -> usize
 
 fn read_fields(s: &[u8], name: u64, at: usize) -> Fields
     requires { ⌜ at ≤ length (now s) ⌝ }
-    ensures { λ r. ⌜ r ≡ fieldsFrom name (now (s .entry)) at ⌝ }
+    ensures { λ r. ⌜ r ≡ fieldsBehind name (now (s .entry)) at ⌝ }
 {
     let operation = next_word(s, at);
     let behind = end_of_word(s, operation);
@@ -154,14 +154,14 @@ fn read_named(s: &[u8]) -> Card
     ensures { λ r. ⌜ r ≡ namedCard (now (s .entry)) (nameAt (now (s .entry)) 0) ⌝ }
 {
     match terms::naming::read_name(s, 0) {
-        Name::Named(number, next) => {
+        NameRead::Named(number, next) => {
             if name_ends(s, next) {
                 Card::Statement(read_fields(s, number, next))
             } else {
                 Card::BadName
             }
         }
-        Name::NoName(_) => Card::BadName,
+        NameRead::NoName(_) => Card::BadName,
     }
 }
 

@@ -3,3 +3,4 @@ mod Turns
 pub mod Within
 pub mod Fine
 pub mod Texts
+pub mod Card

@@ -1,17 +1,18 @@
 -- A turn of each reader: digits, the number that they write, characters.
 use Prim.Native.Nat.{ℕ, zero, suc, _+_, _-_, _≤_, _<_}
 use mathlib.Core.List.{List}
-use mathlib.Core.Path.{_≡_, refl}
-use mathlib.Core.Bool.{true, false}
+use mathlib.Core.Path.{_≡_}
+use mathlib.Core.Bool.{true}
 use native.Mathlib.Nat.{not-suc-le-zero}
 use native.Mathlib.Numerals.{sub-one}
 use native.Mathlib.Omega.{arith}
 use borrow.Author.Tests.{ltb-true}
-use lib.Dec.{eqb}
+use lib.Dec.{eqb, ltb}
 use lib.ListN.{length, getD}
 use Rattle.values.specs.Tests.{pick}
 use Rattle.letters.specs.Letters.{digitOf}
 use Rattle.letters.proofs.Laws.{inside-digit}
+use Rattle.letters.proofs.Runs.{run-more}
 use Rattle.terms.specs.declared.Quoted.the-variants.{One, Closed, Nothing}
 use Rattle.terms.specs.Terms.{digitAt, withDigit, quotedAt}
 use Rattle.data.specs.declared.value.Extent.{Extent}
@@ -25,14 +26,7 @@ digit-inside base s at b t = inside-digit s at (omega (arith, ltb-true (digitOf 
 
 pub digits-more : (n base : ℕ) (s : List ℕ) (at : ℕ) → base ≤ 16 → length s ≤ n + at → digitAt base s at ≡ true
     → digitsEndFrom n base s at ≡ digitsEndFrom (n - 1) base s (at + 1)
-unfolding digitsEndFrom
-digits-more zero base s at b l t = absurd (omega (arith, digit-inside base s at b t))
-digits-more (suc n) base s at b l t = rw (t, sub-one)
-
-pub digits-stop : (n base : ℕ) (s : List ℕ) (at : ℕ) → digitAt base s at ≡ false → digitsEndFrom n base s at ≡ at
-unfolding digitsEndFrom
-digits-stop zero base s at t = refl
-digits-stop (suc n) base s at t = rw t
+digits-more n base s at b l t = run-more (λ d. ltb (digitOf d) base) n s at (omega (arith, digit-inside base s at b t)) t
 
 -- NUMBERS
 

@@ -5,14 +5,18 @@ use mathlib.Core.Path.{_≡_, refl, sym, ap, _∙_}
 use mathlib.Core.Bool.{Bool, true, false}
 use native.Mathlib.Decide.{decLe}
 use native.Mathlib.Omega.{arith}
-use borrow.Author.Tests.{eqb-true, eqb-false}
-use lib.Dec.{eqb}
+use borrow.Author.Tests.{eqb-true, eqb-false, le-ltb}
+use lib.Dec.{eqb, ltb}
 use lib.ListN.{length, getD}
+use Rattle.letters.specs.Text.{stands}
 use Rattle.values.specs.Tests.{pick}
+use Rattle.letters.specs.Letters.{digitOf}
+use Rattle.letters.specs.Text.{isFromTo}
 use Rattle.letters.proofs.Laws.{inside}
+use Rattle.letters.proofs.Runs.{run-bounds, run-inside}
 use Rattle.terms.specs.declared.Quoted.{Quoted}
 use Rattle.terms.specs.declared.Quoted.the-variants.{One, Closed, Nothing}
-use Rattle.terms.specs.Terms.{stands, digitAt, quotedAt}
+use Rattle.terms.specs.Terms.{quotedAt}
 use Rattle.terms.proofs.Within.{Stops, QuotedWithin, quoted-within, stands-inside}
 use Rattle.expressions.specs.declared.form.Form.{Form}
 use Rattle.expressions.specs.declared.form.Form.the-variants.{Ends}
@@ -23,34 +27,20 @@ use Rattle.data.specs.declared.DataType.the-variants.{Characters, Hexade
 use Rattle.data.specs.declared.Data.{Data}
 use Rattle.data.specs.declared.DataForm.{DataForm}
 use Rattle.data.specs.declared.head.Typed.{Typed}
-use Rattle.data.specs.declared.head.Written.{Written}
+use Rattle.data.specs.declared.head.WrittenLength.{WrittenLength}
 use Rattle.data.specs.declared.head.Head.{Head}
 use Rattle.data.specs.declared.head.HeadForm.{HeadForm}
 use Rattle.data.specs.declared.value.Extent.{Extent}
-use Rattle.data.specs.Runs.{digitsEndFrom, digitsEnd, told}
+use Rattle.data.specs.Runs.{digitsEnd, told}
 use Rattle.data.specs.Form.{typeOf, copiesBefore, lengthUpTo, lengthAt, headOf, headFrom, headAt, charactersOn, charactersFrom, charactersAt, runUpTo, runAt, addressOf, addressAt, openingOf, openedAt, valueAt, constantData, constantUpTo, constantBehind, constantOf, constantForm, reserveOf, reserveForm}
-use Rattle.data.proofs.Turns.{digit-inside}
 
 -- RUNS OF DIGITS
 
-ends-within : (n base : ℕ) (s : List ℕ) (at : ℕ) → base ≤ 16 → (at ≤ digitsEndFrom n base s at) × (at < digitsEndFrom n base s at → digitsEndFrom n base s at ≤ length s)
-unfolding digitsEndFrom
-ends-within zero base s at b = (omega arith, λ h. absurd (omega arith))
-ends-within (suc n) base s at b = go (digitAt base s at) refl (ends-within n base s (at + 1) b)
-  where
-    last : (m : ℕ) → at + 1 ≤ m → (at + 1 < m → m ≤ length s) → at < length s → m ≤ length s
-    last m l f i = elim (decLe m (at + 1)) [ yes small ↦ omega arith | no large ↦ f (omega arith) ]
-
-    go : (x : Bool) → digitAt base s at ≡ x
-        → (at + 1 ≤ digitsEndFrom n base s (at + 1)) × (at + 1 < digitsEndFrom n base s (at + 1) → digitsEndFrom n base s (at + 1) ≤ length s)
-        → (at ≤ pick x (digitsEndFrom n base s (at + 1)) at) × (at < pick x (digitsEndFrom n base s (at + 1)) at → pick x (digitsEndFrom n base s (at + 1)) at ≤ length s)
-    go true e ih = (omega arith, λ h. last (digitsEndFrom n base s (at + 1)) (ih .0) (ih .1) (digit-inside base s at b e))
-    go false e ih = (omega arith, λ h. absurd (omega arith))
-
 -- digits end where they begin, or inside
 pub digits-within : (base : ℕ) (s : List ℕ) (at : ℕ) → base ≤ 16 → (at ≤ digitsEnd base s at) × (at < digitsEnd base s at → digitsEnd base s at ≤ length s)
-unfolding digitsEnd
-digits-within base s at b = ends-within (length s) base s at b
+unfolding digitsEnd digitOf isFromTo
+digits-within base s at b =
+    (run-bounds (λ d. ltb (digitOf d) base) (length s) s at .0, run-inside (λ d. ltb (digitOf d) base) (le-ltb 16 base b) (length s) s at)
 
 -- VALUES
 
@@ -156,12 +146,12 @@ length-within s kind copies at l = go (stands "L" s at) refl
     upTo i end w = by (eqb end (at + 1)) refl
       where
         by : (x : Bool) → eqb end (at + 1) ≡ x
-            → HeadWithin s (pick x (HeadForm.Fails (at + 1)) (HeadForm.Of (record { kind = kind; copies = copies; length = Written.As (told (Rattle.data.specs.Runs.numberFrom (end - (at + 1)) s (at + 1) 0)); next = end })))
+            → HeadWithin s (pick x (HeadForm.Fails (at + 1)) (HeadForm.Of (record { kind = kind; copies = copies; length = WrittenLength.As (told (Rattle.data.specs.Runs.numberFrom (end - (at + 1)) s (at + 1) 0)); next = end })))
         by true e = omega arith
         by false e = let n = eqb-false end (at + 1) e in w .1 (omega arith)
 
     go : (x : Bool) → stands "L" s at ≡ x
-        → HeadWithin s (pick x (lengthUpTo s kind copies (at + 1) (digitsEnd 10 s (at + 1))) (HeadForm.Of (record { kind = kind; copies = copies; length = Written.Absent; next = at })))
+        → HeadWithin s (pick x (lengthUpTo s kind copies (at + 1) (digitsEnd 10 s (at + 1))) (HeadForm.Of (record { kind = kind; copies = copies; length = WrittenLength.Absent; next = at })))
     go true e = upTo (stands-inside 76 s at (omega arith) e) (digitsEnd 10 s (at + 1)) (digits-within 10 s (at + 1) (omega arith))
     go false e = l
 

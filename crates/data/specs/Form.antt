@@ -5,20 +5,21 @@ use mathlib.Core.List.{List}
 use lib.ListN.{length, getD}
 use lib.Dec.{eqb}
 use Rattle.values.specs.Tests.{pick}
-use Rattle.letters.specs.Text.{byte, is}
+use Rattle.letters.specs.Text.{byte, is, stands}
 use Rattle.terms.specs.declared.Quoted.{Quoted}
 use Rattle.terms.specs.declared.Quoted.the-variants.{One, Closed, Nothing}
-use Rattle.terms.specs.Terms.{stands, quotedAt}
+use Rattle.terms.specs.Terms.{quotedAt}
 use Rattle.expressions.specs.declared.form.Form.{Form}
 use Rattle.expressions.specs.declared.form.Form.the-variants.{Ends}
 use Rattle.expressions.specs.Form.{formOf, expressionAt}
+use Rattle.data.specs.declared.DataCard.the-variants.{Constant, Reserve}
 use Rattle.data.specs.declared.DataType.{DataType}
 use Rattle.data.specs.declared.DataType.the-variants.{Characters, Hexadecimal, Decimal, Address}
 use Rattle.data.specs.declared.Data.{Data}
 use Rattle.data.specs.declared.DataForm.{DataForm}
 use Rattle.data.specs.declared.head.Typed.{Typed}
-use Rattle.data.specs.declared.head.Written.{Written}
-use Rattle.data.specs.declared.head.Written.the-variants.{Absent, As}
+use Rattle.data.specs.declared.head.WrittenLength.{WrittenLength}
+use Rattle.data.specs.declared.head.WrittenLength.the-variants.{Absent, As}
 use Rattle.data.specs.declared.head.Head.{Head}
 use Rattle.data.specs.declared.head.HeadForm.{HeadForm}
 use Rattle.data.specs.declared.value.Extent.{Extent}
@@ -113,7 +114,7 @@ valueAt s kind at = pick (eqb (getD s at 0) (openingOf kind)) (openedAt s kind (
 
 -- OPERANDS
 
-abbrev pub writtenOr : Written → ℕ → ℕ
+abbrev pub writtenOr : WrittenLength → ℕ → ℕ
 writtenOr (As m) other = m
 writtenOr Absent other = other
 
@@ -133,6 +134,7 @@ reserveLength Address = 2
 
 abbrev pub constantData : Head → ℕ → Data
 constantData h count = record {
+  card = Constant;
   kind = h .kind;
   copies = h .copies;
   length = writtenOr (h .length) (constantLength (h .kind) count);
@@ -142,6 +144,7 @@ constantData h count = record {
 
 abbrev pub reserveData : Head → Data
 reserveData h = record {
+  card = Reserve;
   kind = h .kind;
   copies = h .copies;
   length = writtenOr (h .length) (reserveLength (h .kind));

@@ -2,13 +2,14 @@
 use Prim.Native.Nat.{ℕ, zero, suc, _+_, _-_, min}
 use mathlib.Core.List.{List}
 use lib.ListN.{length}
-use Rattle.values.specs.Tests.{pick}
-use Rattle.terms.specs.Terms.{digitAt, withDigit}
+use lib.Dec.{ltb}
+use Rattle.letters.specs.Letters.{digitOf}
+use Rattle.letters.specs.Text.{runEnd}
+use Rattle.terms.specs.Terms.{withDigit}
 
 -- the position behind the digits of a base that stand from a position on; n bounds how many
-unfoldable pub digitsEndFrom : ℕ → ℕ → List ℕ → ℕ → ℕ
-digitsEndFrom zero base s at = at
-digitsEndFrom (suc n) base s at = pick (digitAt base s at) (digitsEndFrom n base s (at + 1)) at
+abbrev pub digitsEndFrom : ℕ → ℕ → List ℕ → ℕ → ℕ
+digitsEndFrom n base s at = runEnd (λ b. ltb (digitOf b) base) n s at
 
 -- no more than there are columns
 unfoldable pub digitsEnd : ℕ → List ℕ → ℕ → ℕ

@@ -3,6 +3,8 @@ use Prim.Native.Nat.{ℕ, _+_, _*_, _/_}
 use mathlib.Core.Bool.{Bool}
 use lib.Dec.{ltb, leb}
 use Rattle.values.specs.Tests.{pick, both}
+use Rattle.data.specs.declared.DataCard.{DataCard}
+use Rattle.data.specs.declared.DataCard.the-variants.{Constant, Reserve}
 use Rattle.data.specs.declared.DataType.{DataType}
 use Rattle.data.specs.declared.DataType.the-variants.{Characters, Hexadecimal, Decimal, Address}
 use Rattle.data.specs.declared.Data.{Data}
@@ -45,3 +47,11 @@ constantNo d =
 -- DS: m out of range, or n over 65535
 unfoldable pub reserveNo : Data → ℕ
 reserveNo d = pick (lengthFits d) (pick (ltb 65535 (d .copies)) 21 0) 21
+
+-- 21 of a DC, or of a DS
+abbrev pub dataNoBy : DataCard → Data → ℕ
+dataNoBy Constant d = constantNo d
+dataNoBy Reserve d = reserveNo d
+
+abbrev pub dataNo : Data → ℕ
+dataNo d = dataNoBy (d .card) d

@@ -4,7 +4,7 @@ use mathlib.Core.List.{List, [], _∷_, _++_}
 use lib.ListN.{getD, replicate}
 use lib.Dec.{eqb}
 use Rattle.values.specs.Tests.{pick}
-use Rattle.letters.specs.Letters.{digitOf}
+use Rattle.letters.specs.Letters.{digitOf, blankCode}
 use Rattle.terms.specs.declared.Quoted.{Quoted}
 use Rattle.terms.specs.declared.Quoted.the-variants.{One, Closed, Nothing}
 use Rattle.terms.specs.Terms.{quotedAt}
@@ -16,8 +16,8 @@ use Rattle.data.specs.Sizes.{halfUp}
 -- the code of a character inside apostrophes, and the position behind it; a blank, and no step, where there is none
 abbrev pub codeIn : Quoted → ℕ
 codeIn (One code next) = code
-codeIn (Closed next) = 0x40
-codeIn (Nothing place) = 0x40
+codeIn (Closed next) = blankCode
+codeIn (Nothing place) = blankCode
 
 abbrev pub nextIn : Quoted → ℕ → ℕ
 nextIn (One code next) at = next
@@ -47,7 +47,7 @@ hexBytes count s at = pick (eqb (count % 2) 0) (pairsFrom (count / 2) s at) (hex
 
 -- "C: blanks on the right"
 unfoldable pub charactersText : List ℕ → Data → List ℕ
-charactersText s d = codesFrom (d .count) s (d .value) ++ replicate (d .length - d .count) 0x40
+charactersText s d = codesFrom (d .count) s (d .value) ++ replicate (d .length - d .count) blankCode
 
 -- "X: zeros on the left"
 unfoldable pub hexadecimalText : List ℕ → Data → List ℕ

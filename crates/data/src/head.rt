@@ -13,7 +13,7 @@ pub enum Typed {
 }
 
 // A length as it is written, if it is.
-pub enum Written {
+pub enum WrittenLength {
     Absent,
     As(u32),
 }
@@ -22,7 +22,7 @@ pub enum Written {
 pub struct Head {
     pub kind: DataType,
     pub copies: u32,
-    pub length: Written,
+    pub length: WrittenLength,
     pub next: usize,
 }
 
@@ -63,7 +63,7 @@ fn read_length(s: &[u8], kind: DataType, copies: u32, at: usize) -> HeadForm
         return HeadForm::Of(Head {
             kind,
             copies,
-            length: Written::Absent,
+            length: WrittenLength::Absent,
             next: at,
         });
     }
@@ -75,7 +75,7 @@ fn read_length(s: &[u8], kind: DataType, copies: u32, at: usize) -> HeadForm
     HeadForm::Of(Head {
         kind,
         copies,
-        length: Written::As(number_in(s, from, end)),
+        length: WrittenLength::As(number_in(s, from, end)),
         next: end,
     })
 }

@@ -8,7 +8,7 @@ pub mod value;
 
 use head::Head;
 use head::HeadForm;
-use head::Written;
+use head::WrittenLength;
 use value::Extent;
 ghost use mathlib.Core.Path.{_≡_};
 ghost use Prim.Native.Nat.{_+_, _<_, _^_};
@@ -21,9 +21,16 @@ pub enum DataType {
     Address,
 }
 
+// A DC, which makes bytes, or a DS, which leaves room for them.
+pub enum DataCard {
+    Constant,
+    Reserve,
+}
+
 // What an operand says. `count`: the characters or digits of its value; `value`: where the first of them, or the expression, stands.
 // Copies, length and count are told no further than 65536.
 pub struct Data {
+    pub card: DataCard,
     pub kind: DataType,
     pub copies: u32,
     pub length: u32,
@@ -37,12 +44,12 @@ pub enum DataForm {
     Of(Data),
 }
 
-fn written_or(w: Written, other: u32) -> u32
+fn written_or(w: WrittenLength, other: u32) -> u32
     ensures { λ r. ⌜ r ≡ writtenOr w other ⌝ }
 {
     match w {
-        Written::As(m) => m,
-        Written::Absent => other,
+        WrittenLength::As(m) => m,
+        WrittenLength::Absent => other,
     }
 }
 
@@ -75,6 +82,7 @@ fn constant_data(h: Head, count: u32) -> Data
     let kind = h.kind;
     let written = h.length;
     Data {
+        card: DataCard::Constant,
         kind,
         copies: h.copies,
         length: written_or(written, constant_length(kind, count)),
@@ -89,6 +97,7 @@ fn reserve_data(h: Head) -> Data
     let kind = h.kind;
     let written = h.length;
     Data {
+        card: DataCard::Reserve,
         kind,
         copies: h.copies,
         length: written_or(written, reserve_length(kind)),

@@ -1,8 +1,9 @@
 // The size of a data card's field, and refusal 21.
 use crate::Data;
+use crate::DataCard;
 use crate::DataType;
 ghost use mathlib.Core.Path.{_≡_};
-ghost use Rattle.data.specs.Sizes.{halfUp, longest, lengthFits, bytesNeeded, dataSize, constantNo, reserveNo};
+ghost use Rattle.data.specs.Sizes.{halfUp, longest, lengthFits, bytesNeeded, dataSize, constantNo, reserveNo, dataNo};
 
 fn longest_of(kind: DataType) -> u32
     ensures { λ r. ⌜ r ≡ longest kind ⌝ }
@@ -53,7 +54,7 @@ pub fn data_size(d: Data) -> usize
 }
 
 // Refusal 21 of a DC card, or 0.
-pub fn constant_no(d: Data) -> u8
+fn constant_no(d: Data) -> u8
     ensures { λ r. ⌜ r ≡ constantNo d ⌝ }
 {
     if !length_fits(d) {
@@ -72,7 +73,7 @@ pub fn constant_no(d: Data) -> u8
 }
 
 // Refusal 21 of a DS card, or 0.
-pub fn reserve_no(d: Data) -> u8
+fn reserve_no(d: Data) -> u8
     ensures { λ r. ⌜ r ≡ reserveNo d ⌝ }
 {
     if !length_fits(d) {
@@ -82,4 +83,15 @@ pub fn reserve_no(d: Data) -> u8
         return 21;
     }
     0
+}
+
+// Refusal 21 of a data card, or 0.
+pub fn data_no(d: Data) -> u8
+    ensures { λ r. ⌜ r ≡ dataNo d ⌝ }
+{
+    let card = d.card;
+    match card {
+        DataCard::Constant => constant_no(d),
+        DataCard::Reserve => reserve_no(d),
+    }
 }

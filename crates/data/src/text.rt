@@ -2,6 +2,7 @@
 use crate::Data;
 use crate::DataType;
 use crate::sizes::half_up;
+use letters::BLANK_CODE;
 use letters::byte_at;
 use terms::Quoted;
 use terms::quoted_at;
@@ -17,8 +18,8 @@ fn code_in(q: Quoted) -> u8
 {
     match q {
         Quoted::One(code, _) => code,
-        Quoted::Closed(_) => 0x40,
-        Quoted::Nothing(_) => 0x40,
+        Quoted::Closed(_) => BLANK_CODE,
+        Quoted::Nothing(_) => BLANK_CODE,
     }
 }
 
@@ -113,7 +114,7 @@ fn put_characters(o: &[u8], d: Data, m: &mut [u8], to: usize)
     let rest = d.length as usize - count;
     let behind = to + count;
     put_codes(o, at, count, m, to);
-    put_fill(m, behind, rest, 0x40);
+    put_fill(m, behind, rest, BLANK_CODE);
 }
 
 // Zeros on the left.

@@ -7,7 +7,7 @@ use native.Mathlib.Numerals.{sub-one}
 use native.Mathlib.Omega.{arith}
 use lib.ListN.{length, length-append}
 use Rattle.values.specs.declared.Value.the-variants.{Absolute, Relocatable}
-use Rattle.encode.specs.Pieces.{Piece, pieceText, textOf, pieceSize, pieceField, fieldsFrom, copied}
+use Rattle.encode.specs.Pieces.{Piece, pieceText, textOf, pieceSize, pieceField, offsetsFrom, copied}
 use Rattle.encode.specs.Pieces.Piece.{plain, value}
 
 -- IN TWO PARTS
@@ -27,14 +27,14 @@ field-append at (plain b) os us = refl
 field-append at (value (Absolute a)) os us = refl
 field-append at (value (Relocatable a)) os us = refl
 
-pub fields-append : (at : ℕ) (ps qs : List Piece) → fieldsFrom at (ps ++ qs) ≡ fieldsFrom at ps ++ fieldsFrom (at + length (textOf ps)) qs
-unfolding fieldsFrom textOf
+pub fields-append : (at : ℕ) (ps qs : List Piece) → offsetsFrom at (ps ++ qs) ≡ offsetsFrom at ps ++ offsetsFrom (at + length (textOf ps)) qs
+unfolding offsetsFrom textOf
 fields-append at [] qs = rw add-zero
 fields-append at (p ∷ ps) qs =
     let n = length-append (pieceText p) (textOf ps) in
     let e : at + pieceSize p + length (textOf ps) ≡ at + length (pieceText p ++ textOf ps) = omega (arith, piece-size p) in
     rw (fields-append (at + pieceSize p) ps qs, e)
-    (field-append at p (fieldsFrom (at + pieceSize p) ps) (fieldsFrom (at + length (pieceText p ++ textOf ps)) qs))
+    (field-append at p (offsetsFrom (at + pieceSize p) ps) (offsetsFrom (at + length (pieceText p ++ textOf ps)) qs))
 
 -- PLAIN BYTES
 
@@ -43,8 +43,8 @@ unfolding textOf
 plain-text [] = refl
 plain-text (b ∷ bs) = ap (λ l. b ∷ l) (plain-text bs)
 
-pub plain-fields : (at : ℕ) (bs : List ℕ) → fieldsFrom at (map plain bs) ≡ []
-unfolding fieldsFrom
+pub plain-fields : (at : ℕ) (bs : List ℕ) → offsetsFrom at (map plain bs) ≡ []
+unfolding offsetsFrom
 plain-fields at [] = refl
 plain-fields at (b ∷ bs) = plain-fields (at + 1) bs
 
@@ -58,8 +58,8 @@ text-none (plain b ∷ ps) h = absurd (omega arith)
 text-none (value v ∷ ps) h = absurd (omega arith)
 
 -- a field has two bytes
-pub fields-half : (at : ℕ) (ps : List Piece) → 2 * length (fieldsFrom at ps) ≤ length (textOf ps)
-unfolding fieldsFrom textOf
+pub fields-half : (at : ℕ) (ps : List Piece) → 2 * length (offsetsFrom at ps) ≤ length (textOf ps)
+unfolding offsetsFrom textOf
 fields-half at [] = omega arith
 fields-half at (plain b ∷ ps) = let h = fields-half (at + 1) ps in omega arith
 fields-half at (value (Absolute a) ∷ ps) = let h = fields-half (at + 2) ps in omega arith

@@ -6,12 +6,12 @@ use Rattle.values.specs.Tests.{pick}
 use Rattle.values.specs.Words.{twoBytes}
 use Rattle.values.specs.declared.Value.{Value}
 use Rattle.values.specs.declared.Value.the-variants.{Absolute, Relocatable}
-use Rattle.names.specs.Table.{amountOf}
+use Rattle.values.specs.Values.{amountOf}
 use Rattle.operations.specs.declared.Operation.{Operation}
 use Rattle.operations.specs.declared.Operation.the-variants.{Jump}
 use Rattle.operations.specs.Codes.{operationByte}
-use Rattle.statements.specs.declared.places.Operand.{Operand}
-use Rattle.statements.specs.declared.places.Operand.the-variants.{Direct, Indexed}
+use Rattle.places.specs.declared.Operand.{Operand}
+use Rattle.places.specs.declared.Operand.the-variants.{Direct, Indexed}
 use Rattle.statements.specs.declared.Statement.{Statement}
 
 -- a byte that is the same wherever the program lies, or a value of two bytes
@@ -44,12 +44,12 @@ pieceField at (plain b) os = os
 pieceField at (value v) os = fieldOf at v os
 
 -- the offsets of the relocatable values among the pieces from an offset on
-unfoldable pub fieldsFrom : ℕ → List Piece → List ℕ
-fieldsFrom at [] = []
-fieldsFrom at (p ∷ ps) = pieceField at p (fieldsFrom (at + pieceSize p) ps)
+unfoldable pub offsetsFrom : ℕ → List Piece → List ℕ
+offsetsFrom at [] = []
+offsetsFrom at (p ∷ ps) = pieceField at p (offsetsFrom (at + pieceSize p) ps)
 
 abbrev pub fieldsOf : List Piece → List ℕ
-fieldsOf ps = fieldsFrom 0 ps
+fieldsOf ps = offsetsFrom 0 ps
 
 -- STATEMENTS
 
@@ -76,8 +76,8 @@ copied (suc n) ps = ps ++ copied n ps
 
 -- the operation byte, Q, and the operands in their order; a jump's operation byte, Q and byte; every copy of an address constant
 unfoldable pub piecesOf : Statement → List Piece
-piecesOf (Statement.Two op q a b) = plain (operationByte op (modeOf a) (modeOf b)) ∷ plain q ∷ (operandPieces a ++ operandPieces b)
-piecesOf (Statement.One op q a) = plain (operationByte op (modeOf a) (modeOf a)) ∷ plain q ∷ operandPieces a
+piecesOf (Statement.TwoAddresses op q a b) = plain (operationByte op (modeOf a) (modeOf b)) ∷ plain q ∷ (operandPieces a ++ operandPieces b)
+piecesOf (Statement.OneAddress op q a) = plain (operationByte op (modeOf a) (modeOf a)) ∷ plain q ∷ operandPieces a
 piecesOf (Statement.Jump q byte) = plain (operationByte Jump 0 0) ∷ plain q ∷ plain byte ∷ []
-piecesOf (Statement.Addresses copies length v) = copied copies (addressPieces length v)
+piecesOf (Statement.AddressConstants copies length v) = copied copies (addressPieces length v)
 piecesOf Statement.None = []

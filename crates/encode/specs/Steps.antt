@@ -5,17 +5,12 @@ use lib.Dec.{eqb}
 use Rattle.values.specs.Tests.{pick}
 use Rattle.values.specs.declared.Value.{Value}
 use Rattle.values.specs.declared.Value.the-variants.{Absolute, Relocatable}
-use Rattle.statements.specs.declared.places.Operand.{Operand}
-use Rattle.statements.specs.declared.places.Operand.the-variants.{Direct, Indexed}
-
--- the bytes of an operand
-abbrev pub operandSize : Operand → ℕ
-operandSize (Direct v) = 2
-operandSize (Indexed v r displacement) = 1
+use Rattle.places.specs.declared.Operand.{Operand}
+use Rattle.places.specs.declared.Operand.the-variants.{Direct, Indexed}
 
 -- the bytes of a copy of an address constant
-abbrev pub addressSize : ℕ → ℕ
-addressSize m = pick (eqb m 1) 1 (pick (eqb m 3) 3 2)
+abbrev pub constantSize : ℕ → ℕ
+constantSize m = pick (eqb m 1) 1 (pick (eqb m 3) 3 2)
 
 -- n fields, where a value is relocatable
 abbrev pub valueCount : Value → ℕ → ℕ
@@ -28,8 +23,8 @@ operandCount (Direct v) = valueCount v 1
 operandCount (Indexed v r displacement) = 0
 
 -- the fields of all copies of an address constant
-abbrev pub addressCount : ℕ → ℕ → Value → ℕ
-addressCount copies m v = pick (eqb m 1) 0 (pick (eqb m 3) 0 (valueCount v copies))
+abbrev pub constantCount : ℕ → ℕ → Value → ℕ
+constantCount copies m v = pick (eqb m 1) 0 (pick (eqb m 3) 0 (valueCount v copies))
 
 -- n offsets, from one on and two apart
 unfoldable pub twoApart : ℕ → ℕ → List ℕ

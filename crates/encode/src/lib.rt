@@ -1,10 +1,12 @@
 // A statement's bytes and the offsets of its relocatable fields.
-use names::amount_of;
 use operations::Operation;
 use operations::codes::operation_byte;
+use operations::traits::fixed_size;
+use places::Operand;
+use places::operand_size;
 use statements::Statement;
-use statements::places::Operand;
 use values::Value;
+use values::amount_of;
 use values::words::put_word;
 ghost use mathlib.Core.Path.{_≡_};
 ghost use mathlib.Core.List.{_∷_, [], _++_};
@@ -12,8 +14,9 @@ ghost use Prim.Native.Nat.{_+_, _*_, _≤_};
 ghost use lib.ListN.{length};
 ghost use lib.Seq.{sets};
 ghost use Rattle.operations.specs.Codes.{operationByte};
-ghost use Rattle.encode.specs.Pieces.{textOf, fieldsFrom, fieldsOf, modeOf, operandPieces, addressPieces, copied, piecesOf};
-ghost use Rattle.encode.specs.Steps.{operandSize, addressSize, valueCount, operandCount, addressCount};
+ghost use Rattle.places.specs.Places.{operandSize};
+ghost use Rattle.encode.specs.Pieces.{textOf, offsetsFrom, fieldsOf, modeOf, operandPieces, addressPieces, copied, piecesOf};
+ghost use Rattle.encode.specs.Steps.{constantSize, valueCount, operandCount, constantCount};
 
 fn mode_of(x: Operand) -> u8
     ensures { λ r. ⌜ r ≡ modeOf x ⌝ }
@@ -26,18 +29,9 @@ fn mode_of(x: Operand) -> u8
 
 // SIZES
 
-fn operand_size(x: Operand) -> usize
-    ensures { λ r. ⌜ (r ≡ operandSize x) × (r ≤ 2) ⌝ }
-{
-    match x {
-        Operand::Direct(_) => 2,
-        Operand::Indexed(_, _, _) => 1,
-    }
-}
-
 // The bytes of one copy of an address constant, by its length.
-fn address_size(size: u32) -> usize
-    ensures { λ r. ⌜ (r ≡ addressSize size) × (r ≤ 3) ⌝ }
+fn constant_size(size: u32) -> usize
+    ensures { λ r. ⌜ (r ≡ constantSize size) × (r ≤ 3) ⌝ }
 {
     if size == 1 {
         return 1;
@@ -49,8 +43,8 @@ fn address_size(size: u32) -> usize
 }
 
 // The bytes of all copies.
-fn addresses_size(copies: u32, size: u32) -> usize
-    ensures { λ r. ⌜ r ≡ copies * addressSize size ⌝ }
+fn constants_size(copies: u32, size: u32) -> usize
+    ensures { λ r. ⌜ r ≡ copies * constantSize size ⌝ }
 {
     let n = copies as usize;
     if size == 1 {
@@ -67,10 +61,10 @@ pub fn text_size(st: Statement) -> usize
     ensures { λ r. ⌜ r ≡ length (textOf (piecesOf st)) ⌝ }
 {
     match st {
-        Statement::Two(_, _, a, b) => 2 + operand_size(a) + operand_size(b),
-        Statement::One(_, _, a) => 2 + operand_size(a),
-        Statement::Jump(_, _) => 3,
-        Statement::Addresses(copies, size, _) => addresses_size(copies, size),
+        Statement::TwoAddresses(_, _, a, b) => 2 + operand_size(a) + operand_size(b),
+        Statement::OneAddress(_, _, a) => 2 + operand_size(a),
+        Statement::Jump(_, _) => fixed_size(Operation::Jump),
+        Statement::AddressConstants(copies, size, _) => constants_size(copies, size),
         Statement::None => 0,
     }
 }
@@ -97,8 +91,8 @@ fn operand_count(x: Operand) -> usize
     }
 }
 
-fn address_count(copies: u32, size: u32, v: Value) -> usize
-    ensures { λ r. ⌜ r ≡ addressCount copies size v ⌝ }
+fn constant_count(copies: u32, size: u32, v: Value) -> usize
+    ensures { λ r. ⌜ r ≡ constantCount copies size v ⌝ }
 {
     if size == 1 {
         return 0;
@@ -114,11 +108,10 @@ pub fn field_count(st: Statement) -> usize
     ensures { λ r. ⌜ r ≡ length (fieldsOf (piecesOf st)) ⌝ }
 {
     match st {
-        Statement::Two(_, _, a, b) => operand_count(a) + operand_count(b),
-        Statement::One(_, _, a) => operand_count(a),
-        Statement::Jump(_, _) => 0,
-        Statement::Addresses(copies, size, v) => address_count(copies, size, v),
-        Statement::None => 0,
+        Statement::TwoAddresses(_, _, a, b) => operand_count(a) + operand_count(b),
+        Statement::OneAddress(_, _, a) => operand_count(a),
+        Statement::AddressConstants(copies, size, v) => constant_count(copies, size, v),
+        _ => 0,
     }
 }
 
@@ -175,7 +168,7 @@ fn put_three(a: u8, b: u8, c: u8, m: &mut [u8], to: usize)
 
 // One copy of an address constant.
 fn put_address(size: u32, v: Value, m: &mut [u8], to: usize)
-    requires { ⌜ to + addressSize size ≤ length (now m) ⌝ }
+    requires { ⌜ to + constantSize size ≤ length (now m) ⌝ }
     ensures { λ _. ⌜ now (m .exit) ≡ sets (now (m .entry)) to (textOf (addressPieces size v)) ⌝ }
 {
     let amount = amount_of(v);
@@ -197,7 +190,7 @@ fn put_addresses(copies: u32, size: u32, v: Value, m: &mut [u8], to: usize)
     requires { ⌜ to + length (textOf (copied copies (addressPieces size v))) ≤ length (now m) ⌝ }
     ensures { λ _. ⌜ now (m .exit) ≡ sets (now (m .entry)) to (textOf (copied copies (addressPieces size v))) ⌝ }
 {
-    let each = address_size(size);
+    let each = constant_size(size);
     let mut left = copies;
     let mut at = to;
     while 0 < left {
@@ -213,8 +206,8 @@ pub fn put_text(st: Statement, m: &mut [u8], to: usize)
     ensures { λ _. ⌜ now (m .exit) ≡ sets (now (m .entry)) to (textOf (piecesOf st)) ⌝ }
 {
     match st {
-        Statement::Two(op, q, a, b) => put_two(op, q, a, b, m, to),
-        Statement::One(op, q, a) => put_one(op, q, a, m, to),
+        Statement::TwoAddresses(op, q, a, b) => put_two(op, q, a, b, m, to),
+        Statement::OneAddress(op, q, a) => put_one(op, q, a, m, to),
         Statement::Jump(q, byte) => put_three(
             operation_byte(Operation::Jump, 0, 0),
             q,
@@ -222,7 +215,7 @@ pub fn put_text(st: Statement, m: &mut [u8], to: usize)
             m,
             to,
         ),
-        Statement::Addresses(copies, size, v) => put_addresses(copies, size, v, m, to),
+        Statement::AddressConstants(copies, size, v) => put_addresses(copies, size, v, m, to),
         Statement::None => {}
     }
 }
@@ -231,7 +224,7 @@ pub fn put_text(st: Statement, m: &mut [u8], to: usize)
 
 fn put_operand_field(x: Operand, at: u8, m: &mut [u8], to: usize)
     requires { ⌜ to + operandCount x ≤ length (now m) ⌝ }
-    ensures { λ _. ⌜ now (m .exit) ≡ sets (now (m .entry)) to (fieldsFrom at (operandPieces x)) ⌝ }
+    ensures { λ _. ⌜ now (m .exit) ≡ sets (now (m .entry)) to (offsetsFrom at (operandPieces x)) ⌝ }
 {
     if operand_count(x) == 1 {
         m[to] = at;
@@ -241,7 +234,7 @@ fn put_operand_field(x: Operand, at: u8, m: &mut [u8], to: usize)
 // The second operand stands behind the first.
 fn put_two_fields(a: Operand, b: Operand, m: &mut [u8], to: usize)
     requires { ⌜ to + (operandCount a + operandCount b) ≤ length (now m) ⌝ }
-    ensures { λ _. ⌜ now (m .exit) ≡ sets (now (m .entry)) to (fieldsFrom 2 (operandPieces a) ++ fieldsFrom (2 + operandSize a) (operandPieces b)) ⌝ }
+    ensures { λ _. ⌜ now (m .exit) ≡ sets (now (m .entry)) to (offsetsFrom 2 (operandPieces a) ++ offsetsFrom (2 + operandSize a) (operandPieces b)) ⌝ }
 {
     let second = 2 + operand_size(a);
     let behind = to + operand_count(a);
@@ -251,10 +244,10 @@ fn put_two_fields(a: Operand, b: Operand, m: &mut [u8], to: usize)
 
 // Every copy of an address constant that is a field.
 fn put_address_fields(copies: u32, size: u32, v: Value, m: &mut [u8], to: usize)
-    requires { ⌜ (to + addressCount copies size v ≤ length (now m)) × (2 * addressCount copies size v ≤ 256) ⌝ }
+    requires { ⌜ (to + constantCount copies size v ≤ length (now m)) × (2 * constantCount copies size v ≤ 256) ⌝ }
     ensures { λ _. ⌜ now (m .exit) ≡ sets (now (m .entry)) to (fieldsOf (copied copies (addressPieces size v))) ⌝ }
 {
-    let count = address_count(copies, size, v);
+    let count = constant_count(copies, size, v);
     let mut i = 0;
     while i < count {
         m[to + i] = (2 * i) as u8;
@@ -268,10 +261,9 @@ pub fn put_fields(st: Statement, m: &mut [u8], to: usize)
     ensures { λ _. ⌜ now (m .exit) ≡ sets (now (m .entry)) to (fieldsOf (piecesOf st)) ⌝ }
 {
     match st {
-        Statement::Two(_, _, a, b) => put_two_fields(a, b, m, to),
-        Statement::One(_, _, a) => put_operand_field(a, 2, m, to),
-        Statement::Jump(_, _) => {}
-        Statement::Addresses(copies, size, v) => put_address_fields(copies, size, v, m, to),
-        Statement::None => {}
+        Statement::TwoAddresses(_, _, a, b) => put_two_fields(a, b, m, to),
+        Statement::OneAddress(_, _, a) => put_operand_field(a, 2, m, to),
+        Statement::AddressConstants(copies, size, v) => put_address_fields(copies, size, v, m, to),
+        _ => {}
     }
 }

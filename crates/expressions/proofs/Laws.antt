@@ -9,11 +9,13 @@ use borrow.Author.Tests.{ltb-false}
 use Rattle.values.specs.Tests.{pick, either}
 use Rattle.values.specs.declared.Value.{Value}
 use Rattle.values.specs.declared.Value.the-variants.{Absolute, Relocatable}
-use Rattle.names.specs.declared.Entry.{Entry}
-use Rattle.names.specs.Table.{amountOf}
+use Rattle.values.specs.declared.Wanted.{Wanted}
+use Rattle.values.specs.declared.Wanted.the-variants.{OnlyAbsolute, OnlyRelocatable}
+use Rattle.values.specs.Values.{amountOf, withValue}
+use Rattle.values.proofs.Laws.{clash}
+use Rattle.names.specs.declared.Meaning.{Meaning}
 use Rattle.expressions.specs.declared.form.Form.the-variants.{Ends}
 use Rattle.expressions.specs.declared.Kind.{Kind}
-use Rattle.expressions.specs.declared.Wanted.{Wanted}
 use Rattle.expressions.specs.declared.Evaluated.{Evaluated}
 use Rattle.expressions.specs.declared.Evaluated.the-variants.{Good, Malformed, Undefined, WrongKind, OutOfRange}
 use Rattle.expressions.specs.Form.{Placed, Addend, Read, formOf}
@@ -21,7 +23,7 @@ use Rattle.expressions.specs.Form.Read.{upTo, fails}
 use Rattle.expressions.specs.Value.{addendFactors, Sum, sumOf, absoluteOf, relocatableOf, valueOf, evaluated, suits, kindOf, refusalFor, valueIn}
 
 -- an expression that ends is never refused for its form
-pub formed : (look : ℕ → Entry) (here : ℕ) (e : Read (List (Addend Placed))) (q : ℕ) → formOf e ≡ Ends q → (w : Wanted) → refusalFor w (evaluated look here e) ≡ 15 → ⊥
+pub formed : (look : ℕ → Meaning) (here : ℕ) (e : Read (List (Addend Placed))) (q : ℕ) → formOf e ≡ Ends q → (w : Wanted) → refusalFor w (evaluated look here e) ≡ 15 → ⊥
 unfolding evaluated valueOf
 formed look here (upTo xs q) r h w e = go (sumOf (map (addendFactors look here) xs)) e
   where
@@ -48,11 +50,16 @@ formed look here (upTo xs q) r h w e = go (sumOf (map (addendFactors look here) 
         at false false false true e =
             one (either (s .out) (either (ltb (s .added) (s .subtracted)) (ltb (s .subtracted + 65535) (s .added)))) (Relocatable (record { 0 = s .added - s .subtracted })) Kind.Relocatable e
         at false false false false e = omega arith
-formed look here (fails q) r h w e = let z : _≡_ {A = ℕ} 0 1 = cc in omega arith
+formed look here (fails q) r h w e = clash (cc)
 
 -- an expression that is not refused has a value of a kind that suits
-pub accepted : (w : Wanted) (e : Evaluated) → refusalFor w e ≡ 0 → (e ≡ Good (valueIn e)) × (suits w (kindOf (valueIn e)) ≡ true)
-accepted w (Good v) h = (refl, go (suits w (kindOf v)) h)
+pub record Accepted (w : Wanted) (e : Evaluated) : Type 0 where
+  pub value : Value
+  pub good : e ≡ Good value
+  pub kind : suits w (kindOf value) ≡ true
+
+pub accepted : (w : Wanted) (e : Evaluated) → refusalFor w e ≡ 0 → Accepted w e
+accepted w (Good v) h = record { value = v; good = refl; kind = go (suits w (kindOf v)) h }
   where
     go : (b : Bool) → pick {X = ℕ} b 0 19 ≡ 0 → b ≡ true
     go true e = refl
@@ -66,29 +73,56 @@ accepted w (OutOfRange k) h = absurd (go (suits w k) h)
     go true e = omega arith
     go false e = omega arith
 
--- a value is at most 65535
-pub value-fits : (look : ℕ → Entry) (here : ℕ) (e : Read (List (Addend Placed))) → amountOf (valueIn (evaluated look here e)) < 65536
-unfolding evaluated valueOf
-value-fits look here (upTo xs q) = go (sumOf (map (addendFactors look here) xs))
+-- where only an absolute value is wanted, it has an absolute one
+pub record AcceptedAbsolute (e : Evaluated) : Type 0 where
+  pub amount : ℕ
+  pub good : e ≡ Good (Absolute (record { 0 = amount }))
+
+pub accepted-absolute : (e : Evaluated) → refusalFor OnlyAbsolute e ≡ 0 → AcceptedAbsolute e
+accepted-absolute e h = let a = accepted OnlyAbsolute e h in go (a .value) (a .good) (a .kind)
   where
-    absolute : (b : Bool) (s : Sum) → amountOf (valueIn (pick b (OutOfRange Kind.Absolute) (Good (Absolute (record { 0 = (s .added + 65536 - s .subtracted) % 65536 }))))) < 65536
+    go : (v : Value) → e ≡ Good v → suits OnlyAbsolute (kindOf v) ≡ true → AcceptedAbsolute e
+    go (Absolute a) g k = record { amount = a .0; good = g }
+    go (Relocatable a) g k = clash (cc)
+
+-- where only a relocatable value is wanted, it has a relocatable one
+pub record AcceptedRelocatable (e : Evaluated) : Type 0 where
+  pub amount : ℕ
+  pub good : e ≡ Good (Relocatable (record { 0 = amount }))
+
+pub accepted-relocatable : (e : Evaluated) → refusalFor OnlyRelocatable e ≡ 0 → AcceptedRelocatable e
+accepted-relocatable e h = let a = accepted OnlyRelocatable e h in go (a .value) (a .good) (a .kind)
+  where
+    go : (v : Value) → e ≡ Good v → suits OnlyRelocatable (kindOf v) ≡ true → AcceptedRelocatable e
+    go (Absolute a) g k = clash (cc)
+    go (Relocatable a) g k = record { amount = a .0; good = g }
+
+fits : (look : ℕ → Meaning) (here : ℕ) (e : Read (List (Addend Placed))) → withValue (valueIn (evaluated look here e)) amountOf 0 < 65536
+unfolding evaluated valueOf
+fits look here (upTo xs q) = go (sumOf (map (addendFactors look here) xs))
+  where
+    absolute : (b : Bool) (s : Sum) → withValue (valueIn (pick b (OutOfRange Kind.Absolute) (Good (Absolute (record { 0 = (s .added + 65536 - s .subtracted) % 65536 }))))) amountOf 0 < 65536
     absolute true s = omega arith
     absolute false s = omega arith
 
     relocatable : (o a : Bool) (s : Sum) → (b : Bool) → ltb (s .subtracted + 65535) (s .added) ≡ b
-        → amountOf (valueIn (pick (either o (either a b)) (OutOfRange Kind.Relocatable) (Good (Relocatable (record { 0 = s .added - s .subtracted }))))) < 65536
+        → withValue (valueIn (pick (either o (either a b)) (OutOfRange Kind.Relocatable) (Good (Relocatable (record { 0 = s .added - s .subtracted }))))) amountOf 0 < 65536
     relocatable true a s b h = omega arith
     relocatable false true s b h = omega arith
     relocatable false false s true h = omega arith
     relocatable false false s false h = omega (arith, ltb-false (s .subtracted + 65535) (s .added) h)
 
-    go : (s : Sum) → amountOf (valueIn (valueOf s)) < 65536
+    go : (s : Sum) → withValue (valueIn (valueOf s)) amountOf 0 < 65536
     go s = at (s .undefined) (s .mixed) (eqb (s .afterPlus) (s .afterMinus)) (eqb (s .afterPlus) (s .afterMinus + 1))
       where
-        at : (a b c d : Bool) → amountOf (valueIn (pick a Undefined (pick b WrongKind (pick c (absoluteOf s) (pick d (relocatableOf s) WrongKind))))) < 65536
+        at : (a b c d : Bool) → withValue (valueIn (pick a Undefined (pick b WrongKind (pick c (absoluteOf s) (pick d (relocatableOf s) WrongKind))))) amountOf 0 < 65536
         at true b c d = omega arith
         at false true c d = omega arith
         at false false true d = absolute (either (s .out) (either (ltb (s .added + 65536) (s .subtracted)) (ltb (s .subtracted + 65535) (s .added)))) s
         at false false false true = relocatable (s .out) (ltb (s .added) (s .subtracted)) s (ltb (s .subtracted + 65535) (s .added)) refl
         at false false false false = omega arith
-value-fits look here (fails q) = omega arith
+fits look here (fails q) = omega arith
+
+-- a value is at most 65535
+pub value-fits : (look : ℕ → Meaning) (here : ℕ) (e : Read (List (Addend Placed))) (v : Value) → evaluated look here e ≡ Good v → amountOf v < 65536
+value-fits look here e v h = let f = fits look here e in rw h at f

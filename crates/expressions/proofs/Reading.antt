@@ -6,10 +6,12 @@ use mathlib.Core.Path.{_≡_, refl, ap, _∙_}
 use native.Mathlib.Omega.{arith}
 use lib.ListN.{length, getD}
 use lib.Dec.{eqb}
+use Rattle.letters.specs.Text.{stands}
 use Rattle.values.specs.Tests.{pick, either}
+use Rattle.values.proofs.Laws.{clash}
 use Rattle.terms.specs.declared.Term.{Term}
 use Rattle.terms.specs.declared.Term.the-variants.{Number, Symbol, Here, Bad}
-use Rattle.terms.specs.Terms.{stands, termAt}
+use Rattle.terms.specs.Terms.{termAt}
 use Rattle.terms.proofs.Within.{Stops, Within, term-within, stands-inside}
 use Rattle.expressions.specs.declared.form.Form.{Form}
 use Rattle.expressions.specs.declared.form.Form.the-variants.{Ends, Fails}
@@ -90,7 +92,7 @@ joins-inside s q e = go (stands "+" s q) refl (stands "-" s q) refl e
     go : (a : Bool) → stands "+" s q ≡ a → (b : Bool) → stands "-" s q ≡ b → either a b ≡ true → q < length s
     go true h b k e = stands-inside 43 s q (omega arith) h
     go false h true k e = stands-inside 45 s q (omega arith) k
-    go false h false k e = let z : _≡_ {A = ℕ} 0 1 = cc in absurd (omega arith)
+    go false h false k e = clash (cc)
 
 products-reach : (n : ℕ) (minus : Bool) (s : List ℕ) (p : ℕ) → Reaches s p (formOf (productsFrom n minus s p))
 unfolding productsFrom
@@ -242,7 +244,7 @@ module _ (s : List ℕ) where
         go : (x : Read (Product Placed)) → formOf x ≡ Ends q
             → formOf (ontoProducts minus x (λ r. pick (joins s r) (productsAt (stands "-" s r) s (r + 1)) (upTo [] r))) ≡ formOf (productsAt (stands "-" s q) s (q + 1))
         go (upTo x r) e = let i : r ≡ q = cc in rw (i, j) (form-onto (record { minus = minus; product = x }) (productsAt (stands "-" s q) s (q + 1)))
-        go (fails r) e = let z : _≡_ {A = ℕ} 0 1 = cc in absurd (omega arith)
+        go (fails r) e = clash (cc)
 
     pub form-last : joins s q ≡ false → formOf (productAt s p) ≡ Ends q → formOf (productsAt minus s p) ≡ Ends q
     form-last j e = ap formOf (products-are minus s p) ∙ go (productAt s p) e
@@ -250,12 +252,12 @@ module _ (s : List ℕ) where
         go : (x : Read (Product Placed)) → formOf x ≡ Ends q
             → formOf (ontoProducts minus x (λ r. pick (joins s r) (productsAt (stands "-" s r) s (r + 1)) (upTo [] r))) ≡ Ends q
         go (upTo x r) e = let i : r ≡ q = cc in rw (i, j)
-        go (fails r) e = let z : _≡_ {A = ℕ} 0 1 = cc in absurd (omega arith)
+        go (fails r) e = clash (cc)
 
     pub form-fail : formOf (productAt s p) ≡ Fails q → formOf (productsAt minus s p) ≡ Fails q
     form-fail e = ap formOf (products-are minus s p) ∙ go (productAt s p) e
       where
         go : (x : Read (Product Placed)) → formOf x ≡ Fails q
             → formOf (ontoProducts minus x (λ r. pick (joins s r) (productsAt (stands "-" s r) s (r + 1)) (upTo [] r))) ≡ Fails q
-        go (upTo x r) e = let z : _≡_ {A = ℕ} 0 1 = cc in absurd (omega arith)
+        go (upTo x r) e = clash (cc)
         go (fails r) e = e

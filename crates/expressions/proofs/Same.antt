@@ -9,6 +9,7 @@ use lib.Dec.{ltb}
 use borrow.Author.Tests.{ltb-true, ltb-false, le-ltb, le-leb}
 use Rattle.values.specs.Tests.{pick, either}
 use Rattle.values.specs.declared.Value.the-variants.{Absolute, Relocatable}
+use Rattle.values.proofs.Laws.{clash}
 use Rattle.expressions.specs.declared.factors.Factor.{Factor}
 use Rattle.expressions.specs.declared.sums.Held.{Held}
 use Rattle.expressions.specs.declared.sums.Running.{Running}
@@ -77,7 +78,7 @@ held-range h (f ∷ fs) e = go (λ o. held-range (multiplied h f) fs o) (ltb 167
         → (b : Bool) → ltb 16777215 (h .value * f .value) ≡ b
         → (multipliedAll (multiplied h f) fs .out ≡ either b (timesOut (h .value * f .value) fs))
         × (either b (timesOut (h .value * f .value) fs) ≡ false → multipliedAll (multiplied h f) fs .value ≡ times (h .value * f .value) fs)
-    go ih true t = (held-over (multiplied h f) fs (rw (e, t)), λ z. let n : _≡_ {A = ℕ} 0 1 = cc in absurd (omega arith))
+    go ih true t = (held-over (multiplied h f) fs (rw (e, t)), λ z. clash (cc))
     go ih false t =
         let v : multiplied h f .value ≡ h .value * f .value = rw t in
         let (a, b) = ih (rw (e, t)) in
@@ -210,7 +211,7 @@ run-range r p m (x ∷ xs) e i =
         → In (runAll (runOn r (x .minus) h) xs .sum) (p + (ifPlus (x .minus) (worth (x .product)) + added xs)) (m + (ifMinus (x .minus) (worth (x .product)) + subtracted xs)))
     go ih true u b w =
         let o : h .out ≡ true = holds (x .product) .out ∙ u in
-        (run-over (runOn r (x .minus) h) xs (rw (e, o)), λ z. let n : _≡_ {A = ℕ} 0 1 = cc in absurd (omega arith))
+        (run-over (runOn r (x .minus) h) xs (rw (e, o)), λ z. clash (cc))
     go ih false u b w =
         let o : h .out ≡ false = holds (x .product) .out ∙ u in
         let v : h .value ≡ worth (x .product) = holds (x .product) .value u in
@@ -223,7 +224,7 @@ run-range r p m (x ∷ xs) e i =
             → In (runAll (runOn r (x .minus) h) xs .sum) (p + (ifPlus (x .minus) (worth (x .product)) + added xs)) (m + (ifMinus (x .minus) (worth (x .product)) + subtracted xs)))
         by true t =
             let o : h .out ≡ false = holds (x .product) .out ∙ u in
-            (run-over (runOn r (x .minus) h) xs (rw (e, o, t)), λ z. let n : _≡_ {A = ℕ} 0 1 = cc in absurd (omega arith))
+            (run-over (runOn r (x .minus) h) xs (rw (e, o, t)), λ z. clash (cc))
         by false t =
             let o : h .out ≡ false = holds (x .product) .out ∙ u in
             let v : h .value ≡ worth (x .product) = holds (x .product) .value u in

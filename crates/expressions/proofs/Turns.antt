@@ -6,9 +6,11 @@ use mathlib.Core.Path.{_≡_, refl, ap, _∙_}
 use native.Mathlib.Nat.{mul-le-mul}
 use native.Mathlib.Omega.{arith}
 use lib.ListN.{length}
+use Rattle.letters.specs.Text.{stands}
 use Rattle.values.specs.Tests.{pick}
-use Rattle.names.specs.declared.Entry.{Entry}
-use Rattle.terms.specs.Terms.{stands, termAt}
+use Rattle.values.proofs.Laws.{clash}
+use Rattle.names.specs.declared.Meaning.{Meaning}
+use Rattle.terms.specs.Terms.{termAt}
 use Rattle.expressions.specs.declared.form.Form.the-variants.{Ends, Fails}
 use Rattle.expressions.specs.declared.sums.Held.{Held}
 use Rattle.expressions.specs.declared.sums.Running.{Running}
@@ -21,7 +23,7 @@ use Rattle.expressions.specs.Steps.{begun, multiplied, multipliedAll, he
 use Rattle.expressions.proofs.Reading.{factors-more, factors-fail, factors-stop, product-more, product-fail, product-within, products-are}
 use Rattle.expressions.proofs.Same.{ended-same}
 
-module _ (look : ℕ → Entry) (here : ℕ) (s : List ℕ) where
+module _ (look : ℕ → Meaning) (here : ℕ) (s : List ℕ) where
   -- a factor more
   pub held-more : (h : Held) (q r : ℕ) → stands "*" s q ≡ true → endOf (termAt s (q + 1)) ≡ Ends r
       → heldOn look here h (factorsAt s q) ≡ heldOn look here (multiplied h (factorOf look here (termAt s (q + 1)))) (factorsAt s r)
@@ -60,7 +62,7 @@ module _ (look : ℕ → Entry) (here : ℕ) (s : List ℕ) where
     where
       go : (x : Read (Product Placed)) → heldAt look here x ≡ Multiplied.Product h q → formOf x ≡ Ends q
       go (upTo x r) e = let i : r ≡ q = cc in ap Ends i
-      go (fails r) e = let z : _≡_ {A = ℕ} 0 1 = cc in absurd (omega arith)
+      go (fails r) e = clash (cc)
 
   run-onto : (r : Running) (minus : Bool) (x : Product Placed) (k : Read (List (Addend Placed)))
       → runFrom look here r (onto (record { minus = minus; product = x }) k) ≡ runFrom look here (runOn r minus (held (productFactors look here x))) k
@@ -82,7 +84,7 @@ module _ (look : ℕ → Entry) (here : ℕ) (s : List ℕ) where
             let i : m ≡ q = cc in
             let k : held (productFactors look here x) ≡ h = cc in
             run-onto r minus x (rest m) ∙ ap (λ w. runFrom look here (runOn r minus w) (rest m)) k ∙ ap (λ w. runFrom look here (runOn r minus h) (rest w)) i
-        go (fails m) e = let z : _≡_ {A = ℕ} 0 1 = cc in absurd (omega arith)
+        go (fails m) e = clash (cc)
 
     -- a product more, and a sign behind it
     pub run-more : (h : Held) (q : ℕ) → heldAt look here (productAt s p) ≡ Multiplied.Product h q → joins s q ≡ true
@@ -100,7 +102,7 @@ module _ (look : ℕ → Entry) (here : ℕ) (s : List ℕ) where
     run-none e = ap (runFrom look here r) (products-are minus s p) ∙ go (productAt s p) e
       where
         go : (x : Read (Product Placed)) → heldAt look here x ≡ Multiplied.Fails → runFrom look here r (ontoProducts minus x rest) ≡ Malformed
-        go (upTo x m) e = let z : _≡_ {A = ℕ} 0 1 = cc in absurd (omega arith)
+        go (upTo x m) e = clash (cc)
         go (fails m) e = refl
 
   -- from nothing, through the whole expression: the value

@@ -5,7 +5,7 @@ use mathlib.Core.Bool.{Bool, true, false}
 use lib.Dec.{ltb, leb, eqb}
 use Rattle.values.specs.Tests.{pick, either}
 use Rattle.values.specs.declared.Value.the-variants.{Absolute, Relocatable}
-use Rattle.names.specs.declared.Entry.{Entry}
+use Rattle.names.specs.declared.Meaning.{Meaning}
 use Rattle.expressions.specs.declared.factors.Factor.{Factor}
 use Rattle.expressions.specs.declared.sums.Held.{Held}
 use Rattle.expressions.specs.declared.sums.Running.{Running}
@@ -42,11 +42,11 @@ abbrev pub held : Product Factor → Held
 held p = multipliedAll (begun (p .first)) (p .others)
 
 -- the product at a position, with what was held before its other factors
-unfoldable pub heldOn : (ℕ → Entry) → ℕ → Held → Read (List Placed) → Multiplied
+unfoldable pub heldOn : (ℕ → Meaning) → ℕ → Held → Read (List Placed) → Multiplied
 heldOn look here h (upTo xs q) = Multiplied.Product (multipliedAll h (map (placedFactor look here) xs)) q
 heldOn look here h (fails q) = Multiplied.Fails
 
-unfoldable pub heldAt : (ℕ → Entry) → ℕ → Read (Product Placed) → Multiplied
+unfoldable pub heldAt : (ℕ → Meaning) → ℕ → Read (Product Placed) → Multiplied
 heldAt look here (upTo p q) = Multiplied.Product (held (productFactors look here p)) q
 heldAt look here (fails q) = Multiplied.Fails
 
@@ -96,6 +96,6 @@ ended r =
     (pick (eqb (r .plus) (r .minus)) (absoluteEnd (r .sum) (r .out))
     (pick (eqb (r .plus) (r .minus + 1)) (relocatableEnd (r .sum) (r .out)) WrongKind)))
 
-unfoldable pub runFrom : (ℕ → Entry) → ℕ → Running → Read (List (Addend Placed)) → Evaluated
+unfoldable pub runFrom : (ℕ → Meaning) → ℕ → Running → Read (List (Addend Placed)) → Evaluated
 runFrom look here r (upTo xs q) = ended (runAll r (map (addendFactors look here) xs))
 runFrom look here r (fails q) = Malformed

@@ -6,14 +6,18 @@ use lib.Dec.{ltb, eqb}
 use Rattle.values.specs.Tests.{pick, either}
 use Rattle.values.specs.declared.Value.{Value}
 use Rattle.values.specs.declared.Value.the-variants.{Absolute, Relocatable}
+use Rattle.values.specs.declared.MaybeValue.{MaybeValue}
+use Rattle.values.specs.declared.MaybeAbsolute.{MaybeAbsolute}
+use Rattle.values.specs.declared.MaybeRelocatable.{MaybeRelocatable}
+use Rattle.values.specs.declared.Wanted.{Wanted}
+use Rattle.values.specs.declared.Wanted.the-variants.{Any, OnlyAbsolute, OnlyRelocatable}
+use Rattle.values.specs.Values.{onlyAbsolute, onlyRelocatable}
 use Rattle.terms.specs.declared.Term.{Term}
 use Rattle.terms.specs.declared.Term.the-variants.{Number, Symbol, Here, Bad}
-use Rattle.names.specs.declared.Entry.{Entry}
-use Rattle.names.specs.declared.Entry.the-variants.{Known, Unknown}
+use Rattle.names.specs.declared.Meaning.{Meaning}
+use Rattle.names.specs.declared.Meaning.the-variants.{Known, Unknown}
 use Rattle.expressions.specs.declared.factors.Factor.{Factor}
 use Rattle.expressions.specs.declared.Kind.{Kind}
-use Rattle.expressions.specs.declared.Wanted.{Wanted}
-use Rattle.expressions.specs.declared.Wanted.the-variants.{Any, OnlyAbsolute, OnlyRelocatable}
 use Rattle.expressions.specs.declared.Evaluated.{Evaluated}
 use Rattle.expressions.specs.declared.Evaluated.the-variants.{Good, Malformed, Undefined, WrongKind, OutOfRange}
 use Rattle.expressions.specs.Form.{Placed, Product, Addend, Read}
@@ -25,24 +29,24 @@ abbrev pub valueFactor : Value → Factor
 valueFactor (Absolute a) = record { value = a .0; relocatable = false; undefined = false }
 valueFactor (Relocatable a) = record { value = a .0; relocatable = true; undefined = false }
 
-abbrev pub entryFactor : Entry → Factor
-entryFactor (Known v l) = valueFactor v
-entryFactor Unknown = record { value = 0; relocatable = false; undefined = true }
+abbrev pub meaningFactor : Meaning → Factor
+meaningFactor (Known v l) = valueFactor v
+meaningFactor Unknown = record { value = 0; relocatable = false; undefined = true }
 
 -- what a term stands for. "`*` in a term's place: relocatable, the counter at the start of the card"
-abbrev pub factorOf : (ℕ → Entry) → ℕ → Term → Factor
+abbrev pub factorOf : (ℕ → Meaning) → ℕ → Term → Factor
 factorOf look here (Number v q) = record { value = v; relocatable = false; undefined = false }
-factorOf look here (Symbol k q) = entryFactor (look k)
+factorOf look here (Symbol k q) = meaningFactor (look k)
 factorOf look here (Here q) = record { value = here; relocatable = true; undefined = false }
 factorOf look here (Bad q) = record { value = 0; relocatable = false; undefined = false }
 
-abbrev pub placedFactor : (ℕ → Entry) → ℕ → Placed → Factor
+abbrev pub placedFactor : (ℕ → Meaning) → ℕ → Placed → Factor
 placedFactor look here x = factorOf look here (x .term)
 
-abbrev pub productFactors : (ℕ → Entry) → ℕ → Product Placed → Product Factor
+abbrev pub productFactors : (ℕ → Meaning) → ℕ → Product Placed → Product Factor
 productFactors look here p = record { first = placedFactor look here (p .first); others = map (placedFactor look here) (p .others) }
 
-abbrev pub addendFactors : (ℕ → Entry) → ℕ → Addend Placed → Addend Factor
+abbrev pub addendFactors : (ℕ → Meaning) → ℕ → Addend Placed → Addend Factor
 addendFactors look here a = record { minus = a .minus; product = productFactors look here (a .product) }
 
 -- PRODUCTS
@@ -193,7 +197,7 @@ unfoldable pub valueOf : Sum → Evaluated
 valueOf s = pick (s .undefined) Undefined (pick (s .mixed) WrongKind (byKind s))
 
 -- the value of what was read as an expression, or why it has none
-unfoldable pub evaluated : (ℕ → Entry) → ℕ → Read (List (Addend Placed)) → Evaluated
+unfoldable pub evaluated : (ℕ → Meaning) → ℕ → Read (List (Addend Placed)) → Evaluated
 evaluated look here (upTo xs q) = valueOf (sumOf (map (addendFactors look here) xs))
 evaluated look here (fails q) = Malformed
 
@@ -224,21 +228,29 @@ refusalFor w Undefined = 18
 refusalFor w WrongKind = 19
 refusalFor w (OutOfRange k) = pick (suits w k) 20 19
 
--- the value, and absolute 0 where there is none
-abbrev pub valueIn : Evaluated → Value
-valueIn (Good v) = v
-valueIn Malformed = Absolute (record { 0 = 0 })
-valueIn Undefined = Absolute (record { 0 = 0 })
-valueIn WrongKind = Absolute (record { 0 = 0 })
-valueIn (OutOfRange k) = Absolute (record { 0 = 0 })
+-- the value, where there is one
+abbrev pub valueIn : Evaluated → MaybeValue
+valueIn (Good v) = MaybeValue.Is v
+valueIn Malformed = MaybeValue.Nothing
+valueIn Undefined = MaybeValue.Nothing
+valueIn WrongKind = MaybeValue.Nothing
+valueIn (OutOfRange k) = MaybeValue.Nothing
+
+-- the value, where there is one and it is absolute
+abbrev pub absoluteIn : Evaluated → MaybeAbsolute
+absoluteIn e = onlyAbsolute (valueIn e)
+
+-- the value, where there is one and it is relocatable
+abbrev pub relocatableIn : Evaluated → MaybeRelocatable
+relocatableIn e = onlyRelocatable (valueIn e)
 
 -- "Implied length: that of the first term if a symbol, else 1"
-abbrev pub entryLength : Entry → ℕ
-entryLength (Known v l) = l
-entryLength Unknown = 1
+abbrev pub meaningLength : Meaning → ℕ
+meaningLength (Known v l) = l
+meaningLength Unknown = 1
 
-abbrev pub termLength : (ℕ → Entry) → Term → ℕ
+abbrev pub termLength : (ℕ → Meaning) → Term → ℕ
 termLength look (Number v q) = 1
-termLength look (Symbol k q) = entryLength (look k)
+termLength look (Symbol k q) = meaningLength (look k)
 termLength look (Here q) = 1
 termLength look (Bad q) = 1

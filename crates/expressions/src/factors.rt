@@ -1,5 +1,5 @@
 // What a term stands for, and the length that it implies.
-use names::Entry;
+use names::Meaning;
 use names::look_up;
 use terms::Term;
 use terms::read_term;
@@ -11,7 +11,7 @@ ghost use lib.ListN.{length};
 ghost use Rattle.names.specs.Names.{find, ascending};
 ghost use Rattle.names.specs.Table.{namesIn};
 ghost use Rattle.terms.specs.Terms.{termAt};
-ghost use Rattle.expressions.specs.Value.{valueFactor, entryFactor, factorOf, entryLength, termLength};
+ghost use Rattle.expressions.specs.Value.{valueFactor, meaningFactor, factorOf, meaningLength, termLength};
 
 // A term's value, whether it is relocatable, whether it is a name that is not defined.
 pub struct Factor {
@@ -37,12 +37,12 @@ fn value_factor(v: Value) -> Factor
     }
 }
 
-fn entry_factor(e: Entry) -> Factor
-    ensures { λ r. ⌜ r ≡ entryFactor e ⌝ }
+fn meaning_factor(e: Meaning) -> Factor
+    ensures { λ r. ⌜ r ≡ meaningFactor e ⌝ }
 {
     match e {
-        Entry::Known(v, _) => value_factor(v),
-        Entry::Unknown => Factor {
+        Meaning::Known(v, _) => value_factor(v),
+        Meaning::Unknown => Factor {
             value: 0,
             relocatable: false,
             undefined: true,
@@ -60,7 +60,7 @@ pub fn factor_of(t: Term, table: &[u8], count: usize, here: u32) -> Factor
             relocatable: false,
             undefined: false,
         },
-        Term::Symbol(k, _) => entry_factor(look_up(table, count, k)),
+        Term::Symbol(k, _) => meaning_factor(look_up(table, count, k)),
         Term::Here(_) => Factor {
             value: here,
             relocatable: true,
@@ -74,12 +74,12 @@ pub fn factor_of(t: Term, table: &[u8], count: usize, here: u32) -> Factor
     }
 }
 
-fn entry_length(e: Entry) -> u16
-    ensures { λ r. ⌜ r ≡ entryLength e ⌝ }
+fn meaning_length(e: Meaning) -> u16
+    ensures { λ r. ⌜ r ≡ meaningLength e ⌝ }
 {
     match e {
-        Entry::Known(_, l) => l,
-        Entry::Unknown => 1,
+        Meaning::Known(_, l) => l,
+        Meaning::Unknown => 1,
     }
 }
 
@@ -89,7 +89,7 @@ fn term_length(t: Term, table: &[u8], count: usize) -> u16
 {
     match t {
         Term::Number(_, _) => 1,
-        Term::Symbol(k, _) => entry_length(look_up(table, count, k)),
+        Term::Symbol(k, _) => meaning_length(look_up(table, count, k)),
         Term::Here(_) => 1,
         Term::Bad(_) => 1,
     }

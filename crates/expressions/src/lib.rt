@@ -12,8 +12,14 @@ use sums::Held;
 use sums::Running;
 use terms::read_term;
 use values::Absolute;
+use values::MaybeAbsolute;
+use values::MaybeRelocatable;
+use values::MaybeValue;
 use values::Relocatable;
 use values::Value;
+use values::Wanted;
+use values::only_absolute;
+use values::only_relocatable;
 ghost use mathlib.Core.Path.{_≡_};
 ghost use mathlib.Core.Bool.{true};
 ghost use Prim.Native.Nat.{_*_, _≤_};
@@ -21,19 +27,12 @@ ghost use lib.ListN.{length};
 ghost use Rattle.names.specs.Names.{find, ascending};
 ghost use Rattle.names.specs.Table.{namesIn};
 ghost use Rattle.expressions.specs.Form.{factorsAt, productAt, expressionAt};
-ghost use Rattle.expressions.specs.Value.{evaluated, suits, kindOf, isAbsolute, isRelocatable, refusalFor, valueIn};
+ghost use Rattle.expressions.specs.Value.{evaluated, suits, kindOf, isAbsolute, isRelocatable, refusalFor, valueIn, absoluteIn, relocatableIn};
 ghost use Rattle.expressions.specs.Steps.{heldOn, heldAt, absoluteEnd, relocatableEnd, ended};
 
 pub enum Kind {
     Absolute,
     Relocatable,
-}
-
-// What a place asks of an expression.
-pub enum Wanted {
-    Any,
-    OnlyAbsolute,
-    OnlyRelocatable,
 }
 
 // What comes of an expression: a value; or 15, 18, 19, or 20 with the kind that the value would have.
@@ -216,15 +215,24 @@ pub fn refusal_for(w: Wanted, e: Evaluated) -> u8
     }
 }
 
-// The value, and absolute 0 where there is none.
-pub fn value_in(e: Evaluated) -> Value
+// The value, where there is one.
+pub fn value_in(e: Evaluated) -> MaybeValue
     ensures { λ r. ⌜ r ≡ valueIn e ⌝ }
 {
     match e {
-        Evaluated::Good(v) => v,
-        Evaluated::Malformed => Value::Absolute(Absolute(0)),
-        Evaluated::Undefined => Value::Absolute(Absolute(0)),
-        Evaluated::WrongKind => Value::Absolute(Absolute(0)),
-        Evaluated::OutOfRange(_) => Value::Absolute(Absolute(0)),
+        Evaluated::Good(v) => MaybeValue::Is(v),
+        _ => MaybeValue::Nothing,
     }
+}
+
+pub fn absolute_in(e: Evaluated) -> MaybeAbsolute
+    ensures { λ r. ⌜ r ≡ absoluteIn e ⌝ }
+{
+    only_absolute(value_in(e))
+}
+
+pub fn relocatable_in(e: Evaluated) -> MaybeRelocatable
+    ensures { λ r. ⌜ r ≡ relocatableIn e ⌝ }
+{
+    only_relocatable(value_in(e))
 }

@@ -1,26 +1,43 @@
 -- The listed fields of a record's text, moved by a displacement (document 01, "Loading takes records in order").
-use Prim.Native.Nat.{ℕ, _+_}
+use Prim.Native.Nat.{ℕ}
 use mathlib.Core.List.{List, [], _∷_}
 use mathlib.Core.Bool.{Bool, true, false}
-use lib.Dec.{ltb}
 use lib.Seq.{sets}
 use Rattle.values.specs.Tests.{either}
+use Rattle.values.specs.Values.{movedBy}
 use Rattle.values.specs.Words.{word, twoBytes}
+use Rattle.values.specs.declared.Displacement.{Displacement}
+use Rattle.values.specs.declared.Relocatable.{Relocatable}
+use Rattle.values.specs.declared.Moved.{Moved}
+use Rattle.values.specs.declared.Moved.the-variants.{To, Over}
 use Rattle.book.specs.Book.{Record}
 
--- a text t in which each listed field gets its value in the text as it was, `was`, plus d
-unfoldable pub movedIn : ℕ → List ℕ → List ℕ → List ℕ → List ℕ
-movedIn d was [] t = t
-movedIn d was (o ∷ os) t = movedIn d was os (sets t o (twoBytes (word was o + d)))
+-- the value in a text at an offset
+abbrev pub fieldIn : List ℕ → ℕ → Relocatable
+fieldIn text o = record { 0 = word text o }
 
--- a record's text with d added to its listed fields
-abbrev pub movedText : ℕ → Record → List ℕ
+-- a text t with a moved value at an offset; one that is over is refused before it comes to that
+abbrev pub withField : Moved → ℕ → List ℕ → List ℕ
+withField (To v) o t = sets t o (twoBytes (v .0))
+withField Over o t = t
+
+-- a text t in which each listed field gets its value in the text as it was, `was`, moved by d
+unfoldable pub movedIn : Displacement → List ℕ → List ℕ → List ℕ → List ℕ
+movedIn d was [] t = t
+movedIn d was (o ∷ os) t = movedIn d was os (withField (movedBy d (fieldIn was o)) o t)
+
+-- a record's text with its listed fields moved by d
+abbrev pub movedText : Displacement → Record → List ℕ
 movedText d r = movedIn d (r .text) (r .fields) (r .text)
 
--- a listed field plus d is over 65535
-unfoldable pub overIn : ℕ → List ℕ → List ℕ → Bool
-overIn d text [] = false
-overIn d text (o ∷ os) = either (ltb 65535 (word text o + d)) (overIn d text os)
+abbrev pub isOver : Moved → Bool
+isOver (To v) = false
+isOver Over = true
 
-abbrev pub overField : ℕ → Record → Bool
+-- 52: a listed field, moved by d, is over
+unfoldable pub overIn : Displacement → List ℕ → List ℕ → Bool
+overIn d text [] = false
+overIn d text (o ∷ os) = either (isOver (movedBy d (fieldIn text o))) (overIn d text os)
+
+abbrev pub overField : Displacement → Record → Bool
 overField d r = overIn d (r .text) (r .fields)

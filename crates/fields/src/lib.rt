@@ -5,9 +5,8 @@ ghost use Prim.Native.Nat.{_+_, _≤_, _<_};
 ghost use lib.ListN.{length, getD};
 ghost use lib.Seq.{sets};
 ghost use Rattle.values.specs.Values.{movedBy};
-ghost use Rattle.values.specs.Words.{word};
-ghost use Rattle.book.specs.Reading.{recordOf, Sound};
-ghost use Rattle.fields.specs.Fields.{overField, movedText};
+ghost use Rattle.book.specs.Reading.{recordThere, Sound};
+ghost use Rattle.fields.specs.Fields.{fieldIn, overField, movedText};
 use book::Place;
 use values::Displacement;
 use values::Moved;
@@ -20,7 +19,7 @@ use values::words::word_at;
 // The offset of a listed field, by its place in the list.
 pub fn offset_at(book: &[u8], p: Place, i: usize) -> usize
     requires { ⌜ Sound (now book) p ⌝ ∗ ⌜ i < p .count ⌝ }
-    ensures { λ r. ⌜ (r ≡ getD (recordOf (now (book .entry)) p .fields) i 0) × (r + 2 ≤ p .size) ⌝ }
+    ensures { λ r. ⌜ (r ≡ getD (recordThere (now (book .entry)) p .fields) i 0) × (r + 2 ≤ p .size) ⌝ }
 {
     let at = p.fields + i;
     wide(book[at])
@@ -29,15 +28,15 @@ pub fn offset_at(book: &[u8], p: Place, i: usize) -> usize
 // The field at an offset of the text, moved.
 pub fn moved_field(book: &[u8], p: Place, offset: usize, d: Displacement) -> Moved
     requires { ⌜ Sound (now book) p ⌝ ∗ ⌜ offset + 2 ≤ p .size ⌝ }
-    ensures { λ r. ⌜ r ≡ movedBy d (record { 0 = word (recordOf (now (book .entry)) p .text) offset }) ⌝ }
+    ensures { λ r. ⌜ r ≡ movedBy d (fieldIn (recordThere (now (book .entry)) p .text) offset) ⌝ }
 {
     Relocatable(word_at(book, p.text + offset)).plus(d)
 }
 
-// Whether a listed field plus the displacement is over 65535.
+// 52: whether a listed field, moved, is over.
 pub fn over_field(book: &[u8], p: Place, d: Displacement) -> bool
     requires { ⌜ Sound (now book) p ⌝ }
-    ensures { λ r. ⌜ r ≡ overField (d .0) (recordOf (now (book .entry)) p) ⌝ }
+    ensures { λ r. ⌜ r ≡ overField d (recordThere (now (book .entry)) p) ⌝ }
 {
     let count = p.count;
     let mut i = 0;
@@ -57,8 +56,8 @@ pub fn over_field(book: &[u8], p: Place, d: Displacement) -> bool
 
 // The record's text, its listed fields moved, laid over m from `to` on.
 pub fn put_moved(book: &[u8], p: Place, d: Displacement, m: &mut [u8], to: usize)
-    requires { ⌜ Sound (now book) p ⌝ ∗ ⌜ overField (d .0) (recordOf (now book) p) ≡ false ⌝ ∗ ⌜ to + p .size ≤ length (now m) ⌝ }
-    ensures { λ _. ⌜ now (m .exit) ≡ sets (now (m .entry)) to (movedText (d .0) (recordOf (now (book .entry)) p)) ⌝ }
+    requires { ⌜ Sound (now book) p ⌝ ∗ ⌜ overField d (recordThere (now book) p) ≡ false ⌝ ∗ ⌜ to + p .size ≤ length (now m) ⌝ }
+    ensures { λ _. ⌜ now (m .exit) ≡ sets (now (m .entry)) to (movedText d (recordThere (now (book .entry)) p)) ⌝ }
 {
     let text = p.text;
     let end = text + p.size;

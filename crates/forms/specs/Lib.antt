@@ -1,3 +1,2 @@
-pub mod Address
 pub mod Shape
 pub mod Size

@@ -4,31 +4,33 @@ use mathlib.Core.List.{List}
 use mathlib.Core.Bool.{Bool}
 use lib.ListN.{length}
 use lib.Dec.{ltb, eqb}
+use Rattle.letters.specs.Text.{stands}
 use Rattle.values.specs.Tests.{pick}
 use Rattle.terms.specs.declared.Term.{Term}
 use Rattle.terms.specs.declared.Term.the-variants.{Number, Symbol, Here, Bad}
-use Rattle.terms.specs.Terms.{stands, decimalAt, hexAt}
+use Rattle.terms.specs.Terms.{decimalAt, hexAt}
 use Rattle.expressions.specs.declared.form.Form.{Form}
 use Rattle.expressions.specs.declared.form.Form.the-variants.{Ends, Fails as FormFails}
 use Rattle.expressions.specs.Form.{formOf, expressionAt}
 use Rattle.operations.specs.declared.Operation.{Operation}
-use Rattle.operations.specs.declared.Operation.the-variants.{Unknown, Start, Equ, Org, Dc, Ds, Using, Drop, End, Decimal, Characters, Move, MoveOf, OneAddress, Branch, LoadAddress, BranchOn, Jump, JumpOn}
+use Rattle.operations.specs.declared.traits.Pattern.{Pattern}
+use Rattle.operations.specs.Traits.{patternOf}
 use Rattle.data.specs.declared.DataForm.{DataForm}
 use Rattle.data.specs.declared.DataForm.the-variants.{Fails as DataFails, Of}
 use Rattle.data.specs.Form.{constantForm, reserveForm}
-use Rattle.data.specs.declared.Data.{Data}
-use Rattle.forms.specs.declared.Item.{Item}
-use Rattle.forms.specs.declared.Item.the-variants.{Absent, At}
-use Rattle.forms.specs.declared.Address.{Address}
+use Rattle.data.specs.declared.Data.{Data as DataSaid}
+use Rattle.addresses.specs.declared.Item.{Item}
+use Rattle.addresses.specs.declared.Item.the-variants.{Absent, At}
+use Rattle.addresses.specs.declared.Address.{Address}
 use Rattle.forms.specs.declared.Shape.{Shape}
-use Rattle.forms.specs.declared.Shape.the-variants.{Fails, Nothing, StartAt, Expression, Pair, Target, Two, One, Only, Constant, Reserve}
-use Rattle.forms.specs.declared.Lengths.{Lengths}
-use Rattle.forms.specs.declared.Lengths.the-variants.{OnEach, OnOne, OnExactlyOne, OnNone}
-use Rattle.forms.specs.declared.reading.Written.{Written}
-use Rattle.forms.specs.declared.reading.Written.the-variants.{MayHaveLength, HasLength, NoLength, OnlyRegister}
-use Rattle.forms.specs.declared.reading.Addressed.{Addressed}
-use Rattle.forms.specs.declared.reading.Addressed.the-variants.{Reads, Stops}
-use Rattle.forms.specs.Address.{addressAt}
+use Rattle.forms.specs.declared.Shape.the-variants.{Fails, Nothing, StartAt, Expression, Pair, Target, TwoAddresses, AddressAndCode, LoneAddress, Data}
+use Rattle.operations.specs.declared.traits.Lengths.{Lengths}
+use Rattle.operations.specs.declared.traits.Lengths.the-variants.{OnEach, OnOne, OnExactlyOne, OnNone}
+use Rattle.addresses.specs.declared.Allowed.{Allowed}
+use Rattle.addresses.specs.declared.Allowed.the-variants.{MayHaveLength, HasLength, NoLength, OnlyRegister}
+use Rattle.addresses.specs.declared.Addressed.{Addressed}
+use Rattle.addresses.specs.declared.Addressed.the-variants.{Reads, Stops}
+use Rattle.addresses.specs.Address.{addressAt}
 
 -- the operand ends here; anything that stands here is no part of it
 unfoldable pub ended : List ℕ → ℕ → Shape → Shape
@@ -65,7 +67,7 @@ startOf o (Here q) = Fails 0
 startOf o (Bad q) = Fails q
 
 unfoldable pub startShape : List ℕ → Shape
-startShape o = pick (isAbsent o) Nothing (startOf o (startTerm o))
+startShape o = pick (isAbsent o) (StartAt 0) (startOf o (startTerm o))
 
 -- "END takes a relocatable operand (the entry) or none"
 unfoldable pub endShape : List ℕ → Shape
@@ -76,68 +78,91 @@ unfoldable pub pairShape : List ℕ → Shape
 pairShape o = behindForm (formOf (expressionAt o 0)) (λ q. behindComma o q (λ p. lastAt o p (Pair p)))
 
 -- "A length on both operands where one is allowed, or MVX's item on neither or both, is 15": what the second address may have behind the first one's length
-abbrev pub unlessThere : Item → Written → Written
+abbrev pub unlessThere : Item → Allowed → Allowed
 unlessThere Absent w = w
 unlessThere (At p) w = NoLength
 
-abbrev pub firstWritten : Lengths → Written
-firstWritten OnEach = MayHaveLength
-firstWritten OnOne = MayHaveLength
-firstWritten OnExactlyOne = MayHaveLength
-firstWritten OnNone = NoLength
+abbrev pub firstAllowed : Lengths → Allowed
+firstAllowed OnEach = MayHaveLength
+firstAllowed OnOne = MayHaveLength
+firstAllowed OnExactlyOne = MayHaveLength
+firstAllowed OnNone = NoLength
 
-abbrev pub secondWritten : Lengths → Item → Written
-secondWritten OnEach l = MayHaveLength
-secondWritten OnOne l = unlessThere l MayHaveLength
-secondWritten OnExactlyOne l = unlessThere l HasLength
-secondWritten OnNone l = NoLength
+abbrev pub secondAllowed : Lengths → Item → Allowed
+secondAllowed OnEach l = MayHaveLength
+secondAllowed OnOne l = unlessThere l MayHaveLength
+secondAllowed OnExactlyOne l = unlessThere l HasLength
+secondAllowed OnNone l = NoLength
 
 -- the second address of two, and the end of the operand
-unfoldable pub twoOf : List ℕ → Address → ℕ → Written → Shape
-twoOf o a p w = behindAddressed (addressAt w o p) (λ b q. ended o q (Two a b))
+unfoldable pub twoOf : List ℕ → Address → ℕ → Allowed → Shape
+twoOf o a p w = behindAddressed (addressAt w o p) (λ b q. ended o q (TwoAddresses a b))
 
 -- two address
 unfoldable pub twoShape : Lengths → List ℕ → Shape
 twoShape k o =
-    behindAddressed (addressAt (firstWritten k) o 0) (λ a q. behindComma o q (λ p. twoOf o a p (secondWritten k (a .length))))
+    behindAddressed (addressAt (firstAllowed k) o 0) (λ a q. behindComma o q (λ p. twoOf o a p (secondAllowed k (a .length))))
 
 -- one address: "E,Q with E, E(R) or E(,R)"; a branch "as one address"
 unfoldable pub oneShape : List ℕ → Shape
-oneShape o = behindAddressed (addressAt OnlyRegister o 0) (λ a q. behindComma o q (λ p. lastAt o p (One a p)))
+oneShape o = behindAddressed (addressAt OnlyRegister o 0) (λ a q. behindComma o q (λ p. lastAt o p (AddressAndCode a p)))
 
 -- "Extended branches, jumps and moves .. drop that operand or item"
 unfoldable pub onlyShape : List ℕ → Shape
-onlyShape o = behindAddressed (addressAt OnlyRegister o 0) (λ a q. ended o q (Only a))
+onlyShape o = behindAddressed (addressAt OnlyRegister o 0) (λ a q. ended o q (LoneAddress a))
 
 -- DC and DS
-abbrev pub behindData : DataForm → (Data → Shape) → Shape
-behindData (Of d) on = on d
-behindData (DataFails q) on = Fails q
+abbrev pub behindData : DataForm → Shape
+behindData (Of d) = Data d
+behindData (DataFails q) = Fails q
 
 unfoldable pub constantShape : List ℕ → Shape
-constantShape o = behindData (constantForm o) Constant
+constantShape o = behindData (constantForm o)
 
 unfoldable pub reserveShape : List ℕ → Shape
-reserveShape o = behindData (reserveForm o) Reserve
+reserveShape o = behindData (reserveForm o)
 
--- the shape of an operation's operand; an unknown operation has none
+-- the shape of an operand by the way it is to be written
+abbrev pub shapeBy : Pattern → List ℕ → Shape
+shapeBy Pattern.Unreadable o = Fails 0
+shapeBy Pattern.StartTerm o = startShape o
+shapeBy Pattern.Expression o = lastAt o 0 Expression
+shapeBy Pattern.MaybeExpression o = endShape o
+shapeBy Pattern.Constant o = constantShape o
+shapeBy Pattern.Reserve o = reserveShape o
+shapeBy Pattern.Pair o = pairShape o
+shapeBy (Pattern.TwoAddresses k) o = twoShape k o
+shapeBy Pattern.AddressAndCode o = oneShape o
+shapeBy Pattern.LoneAddress o = onlyShape o
+shapeBy Pattern.Target o = lastAt o 0 Target
+
 abbrev pub shapeOf : Operation → List ℕ → Shape
-shapeOf Unknown o = Fails 0
-shapeOf Start o = startShape o
-shapeOf Equ o = lastAt o 0 Expression
-shapeOf Org o = lastAt o 0 Expression
-shapeOf Dc o = constantShape o
-shapeOf Ds o = reserveShape o
-shapeOf Using o = pairShape o
-shapeOf Drop o = lastAt o 0 Expression
-shapeOf End o = endShape o
-shapeOf (Decimal low) o = twoShape OnEach o
-shapeOf (Characters low) o = twoShape OnOne o
-shapeOf Move o = twoShape OnExactlyOne o
-shapeOf (MoveOf item) o = twoShape OnNone o
-shapeOf (OneAddress low) o = oneShape o
-shapeOf (Branch low) o = oneShape o
-shapeOf LoadAddress o = oneShape o
-shapeOf (BranchOn q) o = onlyShape o
-shapeOf Jump o = pairShape o
-shapeOf (JumpOn q) o = lastAt o 0 Target
+shapeOf op o = shapeBy (patternOf op) o
+
+-- WHAT A SHAPE SAYS
+
+-- what a data card gives, or else another answer
+abbrev pub ofData : {X : Type 0} → Shape → (DataSaid → X) → X → X
+ofData (Fails q) on other = other
+ofData Nothing on other = other
+ofData (StartAt v) on other = other
+ofData Expression on other = other
+ofData (Pair p) on other = other
+ofData Target on other = other
+ofData (TwoAddresses a b) on other = other
+ofData (AddressAndCode a p) on other = other
+ofData (LoneAddress a) on other = other
+ofData (Data d) on other = on d
+
+-- START's value, or else another number
+abbrev pub startOr : Shape → ℕ → ℕ
+startOr (Fails q) other = other
+startOr Nothing other = other
+startOr (StartAt v) other = v
+startOr Expression other = other
+startOr (Pair p) other = other
+startOr Target other = other
+startOr (TwoAddresses a b) other = other
+startOr (AddressAndCode a p) other = other
+startOr (LoneAddress a) other = other
+startOr (Data d) other = other

@@ -1,42 +1,33 @@
 // The form of an operand, from its columns alone: where each expression of it starts, or the first position at which no operand of its form could go on.
 // An operand is a slice of its own, positions count from 0, and an absent operand is empty.
-pub mod reading;
-
+use addresses::Address;
+use addresses::Addressed;
+use addresses::Allowed;
+use addresses::Item;
+use addresses::address_at;
 use data::Data;
 use data::DataForm;
 use expressions::form::Form;
 use expressions::form::expression_form;
 use letters::byte_at;
 use operations::Operation;
-use reading::Addressed;
-use reading::Written;
-use reading::address_at;
+use operations::traits::Lengths;
+use operations::traits::Pattern;
+use operations::traits::fixed_size;
+use operations::traits::traits_of;
 use terms::Term;
 ghost use mathlib.Core.Path.{_≡_};
 ghost use Prim.Native.Nat.{_≤_};
 ghost use lib.ListN.{length};
-ghost use Rattle.forms.specs.Shape.{ended, lastAt, startTerm, startOf, startShape, endShape, pairShape, unlessThere, firstWritten, secondWritten, twoOf, twoShape, oneShape, onlyShape, constantShape, reserveShape, shapeOf};
-ghost use Rattle.forms.specs.Size.{addressSize, pairSize, sizeOf};
-
-// An item in parentheses: where its expression starts, if it is written.
-pub enum Item {
-    Absent,
-    At(usize),
-}
-
-// An address, E, E(L), E(L,R), E(,R) or E(R): where each expression starts.
-pub struct Address {
-    pub at: usize,
-    pub length: Item,
-    pub register: Item,
-}
+ghost use Rattle.forms.specs.Shape.{ended, lastAt, startTerm, startOf, startShape, endShape, pairShape, unlessThere, firstAllowed, secondAllowed, twoOf, twoShape, oneShape, onlyShape, constantShape, reserveShape, shapeBy, shapeOf};
+ghost use Rattle.forms.specs.Size.{addressSize, sizeOf};
 
 pub enum Shape {
     // Refusal 15, and the first position at which no operand of this form could go on.
     Fails(usize),
-    // START or END without an operand.
+    // END without an operand.
     Nothing,
-    // START's one decimal or hex term.
+    // START's one decimal or hex term, 0 where it has no operand.
     StartAt(u16),
     // EQU, ORG, DROP, END: an expression at 0.
     Expression,
@@ -44,22 +35,13 @@ pub enum Shape {
     Pair(usize),
     // An extended jump's E, at 0.
     Target,
-    Two(Address, Address),
+    TwoAddresses(Address, Address),
     // One address or a branch, and where its Q starts.
-    One(Address, usize),
+    AddressAndCode(Address, usize),
     // An extended branch.
-    Only(Address),
+    LoneAddress(Address),
     // DC and DS.
-    Constant(Data),
-    Reserve(Data),
-}
-
-// On how many of two addresses a length, or MVX's item, is written.
-pub enum Lengths {
-    OnEach,
-    OnOne,
-    OnExactlyOne,
-    OnNone,
+    Data(Data),
 }
 
 fn ended(o: &[u8], q: usize, x: Shape) -> Shape
@@ -104,7 +86,7 @@ fn start_shape(o: &[u8]) -> Shape
     ensures { λ r. ⌜ r ≡ startShape (now (o .entry)) ⌝ }
 {
     if o.len() == 0 {
-        return Shape::Nothing;
+        return Shape::StartAt(0);
     }
     start_of(o, start_term(o))
 }
@@ -134,56 +116,56 @@ fn pair_shape(o: &[u8]) -> Shape
     }
 }
 
-fn unless_there(l: Item, w: Written) -> Written
+fn unless_there(l: Item, w: Allowed) -> Allowed
     ensures { λ r. ⌜ r ≡ unlessThere l w ⌝ }
 {
     match l {
         Item::Absent => w,
-        Item::At(_) => Written::NoLength,
+        Item::At(_) => Allowed::NoLength,
     }
 }
 
-fn first_written(k: Lengths) -> Written
-    ensures { λ r. ⌜ r ≡ firstWritten k ⌝ }
+fn first_allowed(k: Lengths) -> Allowed
+    ensures { λ r. ⌜ r ≡ firstAllowed k ⌝ }
 {
     match k {
-        Lengths::OnEach => Written::MayHaveLength,
-        Lengths::OnOne => Written::MayHaveLength,
-        Lengths::OnExactlyOne => Written::MayHaveLength,
-        Lengths::OnNone => Written::NoLength,
+        Lengths::OnEach => Allowed::MayHaveLength,
+        Lengths::OnOne => Allowed::MayHaveLength,
+        Lengths::OnExactlyOne => Allowed::MayHaveLength,
+        Lengths::OnNone => Allowed::NoLength,
     }
 }
 
-fn second_written(k: Lengths, l: Item) -> Written
-    ensures { λ r. ⌜ r ≡ secondWritten k l ⌝ }
+fn second_allowed(k: Lengths, l: Item) -> Allowed
+    ensures { λ r. ⌜ r ≡ secondAllowed k l ⌝ }
 {
     match k {
-        Lengths::OnEach => Written::MayHaveLength,
-        Lengths::OnOne => unless_there(l, Written::MayHaveLength),
-        Lengths::OnExactlyOne => unless_there(l, Written::HasLength),
-        Lengths::OnNone => Written::NoLength,
+        Lengths::OnEach => Allowed::MayHaveLength,
+        Lengths::OnOne => unless_there(l, Allowed::MayHaveLength),
+        Lengths::OnExactlyOne => unless_there(l, Allowed::HasLength),
+        Lengths::OnNone => Allowed::NoLength,
     }
 }
 
 // The second address, and the end of the operand.
-fn two_of(o: &[u8], a: Address, p: usize, w: Written) -> Shape
+fn two_of(o: &[u8], a: Address, p: usize, w: Allowed) -> Shape
     ensures { λ r. ⌜ r ≡ twoOf (now (o .entry)) a p w ⌝ }
 {
     match address_at(o, p, w) {
         Addressed::Stops(q) => Shape::Fails(q),
-        Addressed::Reads(b, q) => ended(o, q, Shape::Two(a, b)),
+        Addressed::Reads(b, q) => ended(o, q, Shape::TwoAddresses(a, b)),
     }
 }
 
 fn two_shape(o: &[u8], k: Lengths) -> Shape
     ensures { λ r. ⌜ r ≡ twoShape k (now (o .entry)) ⌝ }
 {
-    match address_at(o, 0, first_written(k)) {
+    match address_at(o, 0, first_allowed(k)) {
         Addressed::Stops(q) => Shape::Fails(q),
         Addressed::Reads(a, q) => {
             if byte_at(o, q) == b',' {
                 let l = a.length;
-                two_of(o, a, q + 1, second_written(k, l))
+                two_of(o, a, q + 1, second_allowed(k, l))
             } else {
                 Shape::Fails(q)
             }
@@ -194,12 +176,12 @@ fn two_shape(o: &[u8], k: Lengths) -> Shape
 fn one_shape(o: &[u8]) -> Shape
     ensures { λ r. ⌜ r ≡ oneShape (now (o .entry)) ⌝ }
 {
-    match address_at(o, 0, Written::OnlyRegister) {
+    match address_at(o, 0, Allowed::OnlyRegister) {
         Addressed::Stops(q) => Shape::Fails(q),
         Addressed::Reads(a, q) => {
             if byte_at(o, q) == b',' {
                 let p = q + 1;
-                last_at(o, p, Shape::One(a, p))
+                last_at(o, p, Shape::AddressAndCode(a, p))
             } else {
                 Shape::Fails(q)
             }
@@ -210,9 +192,9 @@ fn one_shape(o: &[u8]) -> Shape
 fn only_shape(o: &[u8]) -> Shape
     ensures { λ r. ⌜ r ≡ onlyShape (now (o .entry)) ⌝ }
 {
-    match address_at(o, 0, Written::OnlyRegister) {
+    match address_at(o, 0, Allowed::OnlyRegister) {
         Addressed::Stops(q) => Shape::Fails(q),
-        Addressed::Reads(a, q) => ended(o, q, Shape::Only(a)),
+        Addressed::Reads(a, q) => ended(o, q, Shape::LoneAddress(a)),
     }
 }
 
@@ -221,7 +203,7 @@ fn constant_shape(o: &[u8]) -> Shape
 {
     match data::constant_form(o) {
         DataForm::Fails(q) => Shape::Fails(q),
-        DataForm::Of(d) => Shape::Constant(d),
+        DataForm::Of(d) => Shape::Data(d),
     }
 }
 
@@ -230,7 +212,25 @@ fn reserve_shape(o: &[u8]) -> Shape
 {
     match data::reserve_form(o) {
         DataForm::Fails(q) => Shape::Fails(q),
-        DataForm::Of(d) => Shape::Reserve(d),
+        DataForm::Of(d) => Shape::Data(d),
+    }
+}
+
+fn shape_by(p: Pattern, o: &[u8]) -> Shape
+    ensures { λ r. ⌜ r ≡ shapeBy p (now (o .entry)) ⌝ }
+{
+    match p {
+        Pattern::Unreadable => Shape::Fails(0),
+        Pattern::StartTerm => start_shape(o),
+        Pattern::Expression => last_at(o, 0, Shape::Expression),
+        Pattern::MaybeExpression => end_shape(o),
+        Pattern::Constant => constant_shape(o),
+        Pattern::Reserve => reserve_shape(o),
+        Pattern::Pair => pair_shape(o),
+        Pattern::TwoAddresses(k) => two_shape(o, k),
+        Pattern::AddressAndCode => one_shape(o),
+        Pattern::LoneAddress => only_shape(o),
+        Pattern::Target => last_at(o, 0, Shape::Target),
     }
 }
 
@@ -238,29 +238,12 @@ fn reserve_shape(o: &[u8]) -> Shape
 pub fn shape_of(o: &[u8], op: Operation) -> Shape
     ensures { λ r. ⌜ r ≡ shapeOf op (now (o .entry)) ⌝ }
 {
-    match op {
-        Operation::Unknown => Shape::Fails(0),
-        Operation::Start => start_shape(o),
-        Operation::Equ => last_at(o, 0, Shape::Expression),
-        Operation::Org => last_at(o, 0, Shape::Expression),
-        Operation::Dc => constant_shape(o),
-        Operation::Ds => reserve_shape(o),
-        Operation::Using => pair_shape(o),
-        Operation::Drop => last_at(o, 0, Shape::Expression),
-        Operation::End => end_shape(o),
-        Operation::Decimal(_) => two_shape(o, Lengths::OnEach),
-        Operation::Characters(_) => two_shape(o, Lengths::OnOne),
-        Operation::Move => two_shape(o, Lengths::OnExactlyOne),
-        Operation::MoveOf(_) => two_shape(o, Lengths::OnNone),
-        Operation::OneAddress(_) => one_shape(o),
-        Operation::Branch(_) => one_shape(o),
-        Operation::LoadAddress => one_shape(o),
-        Operation::BranchOn(_) => only_shape(o),
-        Operation::Jump => pair_shape(o),
-        Operation::JumpOn(_) => last_at(o, 0, Shape::Target),
-    }
+    let t = traits_of(op);
+    let p = t.pattern;
+    shape_by(p, o)
 }
 
+// A direct address takes two bytes, an indexed one.
 fn address_size(a: Address) -> usize
     ensures { λ r. ⌜ (r ≡ addressSize (a .register)) × (r ≤ 2) ⌝ }
 {
@@ -271,48 +254,17 @@ fn address_size(a: Address) -> usize
     }
 }
 
-// USING makes no byte; JC is a jump.
-fn pair_size(op: Operation) -> usize
-    ensures { λ r. ⌜ r ≡ pairSize op ⌝ }
-{
-    match op {
-        Operation::Unknown => 0,
-        Operation::Start => 0,
-        Operation::Equ => 0,
-        Operation::Org => 0,
-        Operation::Dc => 0,
-        Operation::Ds => 0,
-        Operation::Using => 0,
-        Operation::Drop => 0,
-        Operation::End => 0,
-        Operation::Decimal(_) => 0,
-        Operation::Characters(_) => 0,
-        Operation::Move => 0,
-        Operation::MoveOf(_) => 0,
-        Operation::OneAddress(_) => 0,
-        Operation::Branch(_) => 0,
-        Operation::LoadAddress => 0,
-        Operation::BranchOn(_) => 0,
-        Operation::Jump => 3,
-        Operation::JumpOn(_) => 0,
-    }
-}
-
 // The bytes of an instruction, a DC or a DS; 0 for the assembler's other cards.
 pub fn size_of(op: Operation, x: Shape) -> usize
     ensures { λ r. ⌜ r ≡ sizeOf op x ⌝ }
 {
     match x {
-        Shape::Fails(_) => 0,
-        Shape::Nothing => 0,
-        Shape::StartAt(_) => 0,
-        Shape::Expression => 0,
-        Shape::Pair(_) => pair_size(op),
-        Shape::Target => 3,
-        Shape::Two(a, b) => 2 + address_size(a) + address_size(b),
-        Shape::One(a, _) => 2 + address_size(a),
-        Shape::Only(a) => 2 + address_size(a),
-        Shape::Constant(d) => data::sizes::data_size(d),
-        Shape::Reserve(d) => data::sizes::data_size(d),
+        Shape::Pair(_) => fixed_size(op),
+        Shape::Target => fixed_size(op),
+        Shape::TwoAddresses(a, b) => fixed_size(op) + address_size(a) + address_size(b),
+        Shape::AddressAndCode(a, _) => fixed_size(op) + address_size(a),
+        Shape::LoneAddress(a) => fixed_size(op) + address_size(a),
+        Shape::Data(d) => data::sizes::data_size(d),
+        _ => 0,
     }
 }

@@ -16,7 +16,8 @@ use Rattle.letters.specs.Table.{table, placeOf}
 use Rattle.letters.specs.declared.Class.{Class}
 use Rattle.letters.specs.declared.Class.the-variants.{Letter, Digit, Sign, Blank, Refused}
 use Rattle.letters.specs.declared.Pair.{Pair}
-use Rattle.letters.proofs.Every.{every, at, both-left, both-right}
+use Rattle.letters.proofs.Every.{every, at}
+use Rattle.values.proofs.Laws.{both-true}
 
 -- CLASSES
 
@@ -94,26 +95,26 @@ module _ (b : ℕ) (small : b < 256) where
 
   pub table-once : times table b ≡ once b
   unfolding right
-  table-once = eqb-true _ _ (both-left (eqb (times table b) (once b)) _ all)
+  table-once = eqb-true _ _ (both-true (eqb (times table b) (once b)) _ all .0)
 
   pub listed-once : times listed b ≡ once b
   unfolding right
   listed-once =
-      eqb-true _ _ (both-left (eqb (times listed b) (once b)) _ (both-right (eqb (times table b) (once b)) _ all))
+      eqb-true _ _ (both-true (eqb (times listed b) (once b)) _ (both-true (eqb (times table b) (once b)) _ all .1) .0)
 
   rest : both (eqb (codeIn table b) (codeOf b)) (both (eqb (readCode b) (codeOf b)) (agrees b)) ≡ true
   unfolding right
-  rest = both-right (eqb (times listed b) (once b)) _ (both-right (eqb (times table b) (once b)) _ all)
+  rest = both-true (eqb (times listed b) (once b)) _ (both-true (eqb (times table b) (once b)) _ all .1) .1
 
   pub table-code : codeIn table b ≡ codeOf b
-  table-code = eqb-true _ _ (both-left (eqb (codeIn table b) (codeOf b)) _ rest)
+  table-code = eqb-true _ _ (both-true (eqb (codeIn table b) (codeOf b)) _ rest .0)
 
   read-code : readCode b ≡ codeOf b
   read-code =
-      eqb-true _ _ (both-left (eqb (readCode b) (codeOf b)) (agrees b) (both-right (eqb (codeIn table b) (codeOf b)) _ rest))
+      eqb-true _ _ (both-true (eqb (readCode b) (codeOf b)) (agrees b) (both-true (eqb (codeIn table b) (codeOf b)) _ rest .1) .0)
 
   pub class-agrees : agrees b ≡ true
-  class-agrees = both-right (eqb (readCode b) (codeOf b)) (agrees b) (both-right (eqb (codeIn table b) (codeOf b)) _ rest)
+  class-agrees = both-true (eqb (readCode b) (codeOf b)) (agrees b) (both-true (eqb (codeIn table b) (codeOf b)) _ rest .1) .1
 
   -- the pair at a byte's place has the byte: its code is the byte's; or it has another byte, and the byte has no code
   pub code-there : (i : ℕ) → i ≡ placeOf b → pairAt i .0 ≡ b → pairAt i .1 ≡ codeOf b
@@ -165,8 +166,8 @@ code-in-below : (n : ℕ) (ps : List Pair) (b : ℕ) → 0 < n → below-all n p
 unfolding below-all codeIn
 code-in-below n [] b z e = z
 code-in-below n (p ∷ ps) b z e =
-    go (eqb (p .0) b) (ltb-true (p .1) n (both-left (ltb (p .1) n) (below-all n ps) e))
-    (code-in-below n ps b z (both-right (ltb (p .1) n) (below-all n ps) e))
+    go (eqb (p .0) b) (ltb-true (p .1) n (both-true (ltb (p .1) n) (below-all n ps) e .0))
+    (code-in-below n ps b z (both-true (ltb (p .1) n) (below-all n ps) e .1))
   where
     go : (x : Bool) → p .1 < n → codeIn ps b < n → pick x (p .1) (codeIn ps b) < n
     go true h k = h
@@ -194,8 +195,8 @@ past-text : (n : ℕ) (s : String) (b : ℕ) → text-below n s ≡ true → n �
 unfolding text-below isOneOf
 past-text n none b e h = refl
 past-text n (c then s) b e h =
-    let below : byte c < n = ltb-true (byte c) n (both-left (ltb (byte c) n) (text-below n s) e) in
-    rw (ne-eqb b (byte c) (λ q. omega arith)) (past-text n s b (both-right (ltb (byte c) n) (text-below n s) e) h)
+    let below : byte c < n = ltb-true (byte c) n (both-true (ltb (byte c) n) (text-below n s) e .0) in
+    rw (ne-eqb b (byte c) (λ q. omega arith)) (past-text n s b (both-true (ltb (byte c) n) (text-below n s) e .1) h)
 
 -- behind | nothing is accepted
 pub class-past : (b : ℕ) → 125 ≤ b → classOf b ≡ Refused

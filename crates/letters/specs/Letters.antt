@@ -59,10 +59,14 @@ unfoldable pub codedFrom : String → ℕ → List Pair → List Pair
 codedFrom none n others = others
 codedFrom (c then s) n others = coded c n ∷ codedFrom s (n + 1) others
 
+-- the code of a blank
+abbrev pub blankCode : ℕ
+blankCode = 0x40
+
 -- "In character data each becomes its EBCDIC code (code page 037)": the list of document 01, in its order
 unfoldable pub listed : List Pair
 listed =
-    coded " " 0x40 ∷ coded "." 0x4B ∷ coded "<" 0x4C ∷ coded "(" 0x4D ∷ coded "+" 0x4E ∷ coded "|" 0x4F ∷ coded "&" 0x50
+    coded " " blankCode ∷ coded "." 0x4B ∷ coded "<" 0x4C ∷ coded "(" 0x4D ∷ coded "+" 0x4E ∷ coded "|" 0x4F ∷ coded "&" 0x50
     ∷ coded "!" 0x5A ∷ coded "$" 0x5B ∷ coded "*" 0x5C ∷ coded ")" 0x5D ∷ coded ";" 0x5E ∷ coded "-" 0x60 ∷ coded "/" 0x61
     ∷ coded "," 0x6B ∷ coded "%" 0x6C ∷ coded "_" 0x6D ∷ coded ">" 0x6E ∷ coded "?" 0x6F ∷ coded ":" 0x7A ∷ coded "#" 0x7B
     ∷ coded "@" 0x7C ∷ coded "'" 0x7D ∷ coded "=" 0x7E ∷ coded "\"" 0x7F

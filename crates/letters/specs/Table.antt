@@ -5,12 +5,12 @@ use mathlib.Core.List.{List, [], _∷_}
 use lib.Dec.{ltb, eqb}
 use Rattle.values.specs.Tests.{pick}
 use Rattle.letters.specs.Text.{byte}
-use Rattle.letters.specs.Letters.{coded}
+use Rattle.letters.specs.Letters.{blankCode, coded}
 use Rattle.letters.specs.declared.Pair.{Pair}
 
 unfoldable pub table : List Pair
 table =
-    coded " " 0x40 ∷ coded "!" 0x5A ∷ coded "\"" 0x7F ∷ coded "#" 0x7B ∷ coded "$" 0x5B ∷ coded "%" 0x6C ∷ coded "&" 0x50
+    coded " " blankCode ∷ coded "!" 0x5A ∷ coded "\"" 0x7F ∷ coded "#" 0x7B ∷ coded "$" 0x5B ∷ coded "%" 0x6C ∷ coded "&" 0x50
     ∷ coded "'" 0x7D ∷ coded "(" 0x4D ∷ coded ")" 0x5D ∷ coded "*" 0x5C ∷ coded "+" 0x4E ∷ coded "," 0x6B ∷ coded "-" 0x60
     ∷ coded "." 0x4B ∷ coded "/" 0x61 ∷ coded "0" 0xF0 ∷ coded "1" 0xF1 ∷ coded "2" 0xF2 ∷ coded "3" 0xF3 ∷ coded "4" 0xF4
     ∷ coded "5" 0xF5 ∷ coded "6" 0xF6 ∷ coded "7" 0xF7 ∷ coded "8" 0xF8 ∷ coded "9" 0xF9 ∷ coded ":" 0x7A ∷ coded ";" 0x5E

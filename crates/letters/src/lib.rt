@@ -13,12 +13,15 @@ pub enum Class {
     Refused,
 }
 
+// The EBCDIC code of a blank.
+pub const BLANK_CODE: u8 = 0x40;
+
 // An ASCII byte and its EBCDIC code.
 pub struct Pair(pub u8, pub u8);
 
 // The accepted characters, by their ASCII bytes: 32 to 90, 95 and 124.
 const PAIRS: [Pair; 61] = [
-    Pair(b' ', 0x40),
+    Pair(b' ', BLANK_CODE),
     Pair(b'!', 0x5A),
     Pair(b'"', 0x7F),
     Pair(b'#', 0x7B),

@@ -6,22 +6,23 @@ use mathlib.Core.Bool.{Bool, true, false}
 use mathlib.Core.Path.{_≡_, sym, _∙_, subst}
 use native.Mathlib.Omega.{arith}
 use lib.ListN.{length}
+use Rattle.letters.specs.Text.{stands}
 use Rattle.values.specs.Tests.{pick}
-use Rattle.terms.specs.Terms.{stands}
+use Rattle.values.proofs.Laws.{clash}
 use Rattle.terms.specs.Names.{nameAt}
-use Rattle.terms.specs.declared.naming.Name.{Name}
-use Rattle.terms.specs.declared.naming.Name.the-variants.{Named, NoName}
+use Rattle.terms.specs.declared.naming.NameRead.{NameRead}
+use Rattle.terms.specs.declared.naming.NameRead.the-variants.{Named, NoName}
 use Rattle.terms.proofs.Within.{NameWithin, name-within}
 use Rattle.cards.specs.declared.Fields.{Fields}
 use Rattle.cards.specs.declared.Card.{Card}
 use Rattle.cards.specs.declared.Card.the-variants.{Comment as CardComment, BadName as CardBadName, Statement as CardStatement}
-use Rattle.cards.specs.Fields.{blankAt, fieldsFrom, nameEnds, namedCard, cardOf}
+use Rattle.cards.specs.Fields.{blankAt, fieldsBehind, nameEnds, namedCard, cardOf}
 use Rattle.cards.proofs.Laws.{Ordered, CardWithin, card-within}
 use Rattle.forms.specs.Shape.{shapeOf}
 use Rattle.lines.specs.declared.Line.{Line}
 use Rattle.lines.specs.declared.Reading.{Reading}
 use Rattle.lines.specs.declared.Reading.the-variants.{Comment, BadName, Statement}
-use Rattle.lines.specs.Lines.{lineOf, readingFrom, readingOf, operandIn}
+use Rattle.lines.specs.Lines.{lineOf, readingFrom, readingOf, operandColumns}
 
 module _ (s : List ℕ) where
   pub record LineWithin (l : Line) : Type 0 where
@@ -40,18 +41,18 @@ module _ (s : List ℕ) where
   NameBelow (CardStatement f) = f .name < 281474976710656
 
   name-below : NameBelow (cardOf s)
-  unfolding cardOf fieldsFrom
+  unfolding cardOf fieldsBehind
   name-below = go (stands "*" s 0) (blankAt s 0)
     where
-      named : (n : Name) → NameWithin s 0 n → NameBelow (namedCard s n)
+      named : (n : NameRead) → NameWithin s 0 n → NameBelow (namedCard s n)
       named (Named number next) w = ends (nameEnds s next)
         where
-          ends : (x : Bool) → NameBelow (pick x (CardStatement (fieldsFrom number s next)) CardBadName)
+          ends : (x : Bool) → NameBelow (pick x (CardStatement (fieldsBehind number s next)) CardBadName)
           ends true = w .2
           ends false = tt
       named (NoName place) w = tt
 
-      go : (x y : Bool) → NameBelow (pick x CardComment (pick y (CardStatement (fieldsFrom 0 s 0)) (namedCard s (nameAt s 0))))
+      go : (x y : Bool) → NameBelow (pick x CardComment (pick y (CardStatement (fieldsBehind 0 s 0)) (namedCard s (nameAt s 0))))
       go true y = tt
       go false true = omega arith
       go false false = named (nameAt s 0) (name-within s 0)
@@ -74,11 +75,11 @@ module _ (s : List ℕ) where
   line-within l e = subst ReadingWithin e reading-within
 
   -- the shape of a line is that of its operation's operand
-  pub line-shape : (l : Line) → readingOf s ≡ Statement l → l .shape ≡ shapeOf (l .operation) (operandIn s l)
+  pub line-shape : (l : Line) → readingOf s ≡ Statement l → l .shape ≡ shapeOf (l .operation) (operandColumns s l)
   unfolding readingOf lineOf
   line-shape l e = go (cardOf s) e
     where
-      go : (c : Card) → readingFrom s c ≡ Statement l → l .shape ≡ shapeOf (l .operation) (operandIn s l)
-      go CardComment e = let z : _≡_ {A = ℕ} 0 1 = cc in absurd (omega arith)
-      go CardBadName e = let z : _≡_ {A = ℕ} 0 1 = cc in absurd (omega arith)
+      go : (c : Card) → readingFrom s c ≡ Statement l → l .shape ≡ shapeOf (l .operation) (operandColumns s l)
+      go CardComment e = clash (cc)
+      go CardBadName e = clash (cc)
       go (CardStatement f) e = let same : l ≡ lineOf s f = cc in rw same

@@ -9,7 +9,7 @@ use Rattle.cards.specs.Fields.{cardOf}
 use Rattle.operations.specs.Rows.{operationAt}
 use Rattle.operations.specs.Model10.{model10}
 use Rattle.forms.specs.declared.Shape.{Shape}
-use Rattle.forms.specs.declared.Shape.the-variants.{Fails, Nothing, StartAt, Expression, Pair, Target, Two, One, Only, Constant, Reserve}
+use Rattle.forms.specs.declared.Shape.the-variants.{Fails, Nothing, StartAt, Expression, Pair, Target, TwoAddresses, AddressAndCode, LoneAddress, Data}
 use Rattle.forms.specs.Shape.{shapeOf}
 use Rattle.lines.specs.declared.Line.{Line}
 use Rattle.lines.specs.declared.Reading.{Reading}
@@ -36,8 +36,8 @@ unfoldable pub readingOf : List ℕ → Reading
 readingOf s = readingFrom s (cardOf s)
 
 -- the columns of a line's operand
-abbrev pub operandIn : List ℕ → Line → List ℕ
-operandIn s l = part s (l .operand) (l .end - l .operand)
+abbrev pub operandColumns : List ℕ → Line → List ℕ
+operandColumns s l = part s (l .operand) (l .end - l .operand)
 
 -- 15: "operand not of its form"
 abbrev pub shapeNo : Shape → ℕ
@@ -47,8 +47,7 @@ shapeNo (StartAt v) = 0
 shapeNo Expression = 0
 shapeNo (Pair p) = 0
 shapeNo Target = 0
-shapeNo (Two a b) = 0
-shapeNo (One a p) = 0
-shapeNo (Only a) = 0
-shapeNo (Constant d) = 0
-shapeNo (Reserve d) = 0
+shapeNo (TwoAddresses a b) = 0
+shapeNo (AddressAndCode a p) = 0
+shapeNo (LoneAddress a) = 0
+shapeNo (Data d) = 0

@@ -60,15 +60,6 @@ pub fn shape_no(x: Shape) -> u8
 {
     match x {
         Shape::Fails(_) => 15,
-        Shape::Nothing => 0,
-        Shape::StartAt(_) => 0,
-        Shape::Expression => 0,
-        Shape::Pair(_) => 0,
-        Shape::Target => 0,
-        Shape::Two(_, _) => 0,
-        Shape::One(_, _) => 0,
-        Shape::Only(_) => 0,
-        Shape::Constant(_) => 0,
-        Shape::Reserve(_) => 0,
+        _ => 0,
     }
 }

@@ -2,7 +2,7 @@
 -- displacement and storage.
 use Prim.Native.Nat.{ℕ, _+_, min}
 use mathlib.Core.List.{List, [], _∷_}
-use mathlib.Core.Bool.{Bool}
+use mathlib.Core.Bool.{Bool, true}
 use mathlib.Core.Option.{Option, none, some}
 use lib.ListN.{length}
 use lib.Dec.{ltb, eqb}
@@ -16,17 +16,27 @@ use Rattle.book.specs.Book.{Record, Book, bookOf}
 use Rattle.book.specs.declared.Entry.{Entry}
 use Rattle.book.specs.declared.Entry.the-variants.{Absent, At}
 use Rattle.fields.specs.Fields.{movedText, overField}
+use Rattle.load.specs.declared.Test.{Test}
 use Rattle.load.specs.declared.Loaded.{Loaded}
 use Rattle.load.specs.declared.Loaded.the-variants.{Stored, Broken, Outside, Over}
 
 -- STORING
 
+-- where a record's text goes
+abbrev pub movedAddress : Displacement → Record → Moved
+movedAddress d r = movedBy d (record { 0 = r .address })
+
+-- a text stored there; where the address is over, the record is refused before it comes to that
+abbrev pub storedAt : Moved → List ℕ → List ℕ → List ℕ
+storedAt (To a) text m = sets m (a .0) text
+storedAt Moved.Over text m = m
+
 -- one record: the displacement added to its listed fields, then stored at its address plus the displacement
-unfoldable pub stored : ℕ → Record → List ℕ → List ℕ
-stored d r m = sets m (r .address + d) (movedText d r)
+unfoldable pub stored : Displacement → Record → List ℕ → List ℕ
+stored d r m = storedAt (movedAddress d r) (movedText d r) m
 
 -- all of them in order: later records overlay earlier ones
-unfoldable pub storedAll : ℕ → List Record → List ℕ → List ℕ
+unfoldable pub storedAll : Displacement → List Record → List ℕ → List ℕ
 storedAll d [] m = m
 storedAll d (r ∷ rs) m = storedAll d rs (stored d r m)
 
@@ -46,9 +56,18 @@ firstCard fails (r ∷ rs) = pick (fails r) (r .card) (firstCard fails rs)
 abbrev pub roomIn : List ℕ → ℕ
 roomIn m = min (length m) 65536
 
--- 51: text outside storage
-abbrev pub outside : ℕ → ℕ → Record → Bool
-outside d room r = ltb room (r .address + d + length (r .text))
+-- 51: text of so many bytes outside so many bytes of storage; an address that is over is outside any
+abbrev pub outsideAt : Moved → ℕ → ℕ → Bool
+outsideAt (To a) size room = ltb room (a .0 + size)
+outsideAt Moved.Over size room = true
+
+abbrev pub outside : Displacement → ℕ → Record → Bool
+outside d room r = outsideAt (movedAddress d r) (length (r .text)) room
+
+-- the two tests of a record
+abbrev pub failsTest : Test → Displacement → Record → Bool
+failsTest (Test.Outside room) d r = outside d room r
+failsTest Test.Over d r = overField d r
 
 -- THE WHOLE
 
@@ -61,24 +80,24 @@ pub record Outcome : Type 0 where
 abbrev pub refused : Loaded → List ℕ → Outcome
 refused why m = record { answer = why; storage = m }
 
-abbrev pub accepted : ℕ → List Record → List ℕ → Entry → Outcome
+abbrev pub accepted : Displacement → List Record → List ℕ → Entry → Outcome
 accepted d rs m e = record { answer = Stored (bytesStored rs) e; storage = storedAll d rs m }
 
--- 52 for the entry alone: the entry plus the displacement is over 65535
-abbrev pub enteredAt : Moved → ℕ → List Record → List ℕ → Outcome
-enteredAt (To e) d rs m = accepted d rs m (At e)
-enteredAt Moved.Over d rs m = refused (Over 0) m
+-- 52 for the entry alone: the entry, moved, is over
+abbrev pub judgedMoved : Moved → Displacement → List Record → List ℕ → Outcome
+judgedMoved (To e) d rs m = accepted d rs m (At e)
+judgedMoved Moved.Over d rs m = refused (Over 0) m
 
-abbrev pub entered : Entry → Displacement → List Record → List ℕ → Outcome
-entered Absent d rs m = accepted (d .0) rs m Absent
-entered (At e) d rs m = enteredAt (movedBy d e) (d .0) rs m
+abbrev pub judgedEntry : Entry → Displacement → List Record → List ℕ → Outcome
+judgedEntry Absent d rs m = accepted d rs m Absent
+judgedEntry (At e) d rs m = judgedMoved (movedBy d e) d rs m
 
 -- 51 over the whole book, then 52 over the whole book
 unfoldable pub judged : Entry → Displacement → List Record → List ℕ → Outcome
 judged e d rs m =
-    let out = firstCard (outside (d .0) (roomIn m)) rs in
-    let over = firstCard (overField (d .0)) rs in
-    pick (eqb out 0) (pick (eqb over 0) (entered e d rs m) (refused (Over over) m)) (refused (Outside out) m)
+    let out = firstCard (outside d (roomIn m)) rs in
+    let over = firstCard (overField d) rs in
+    pick (eqb out 0) (pick (eqb over 0) (judgedEntry e d rs m) (refused (Over over) m)) (refused (Outside out) m)
 
 -- 50 before these
 abbrev pub ofBook : Option Book → Displacement → List ℕ → Outcome

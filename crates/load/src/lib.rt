@@ -1,11 +1,11 @@
 // Loading a book: 50, 51 and 52, each over the whole book before the next; then storing, record by record.
 ghost use mathlib.Core.Path.{_≡_};
-ghost use Prim.Native.Nat.{_+_, _≤_};
-ghost use lib.Dec.{ltb};
-ghost use Rattle.book.specs.Reading.{layoutOf, recordsIn, Kept};
+ghost use Prim.Native.Nat.{_≤_};
+ghost use Rattle.values.specs.Values.{movedBy};
+ghost use Rattle.book.specs.Reading.{layoutOf, recordThere, recordsIn, Kept, Sound};
 ghost use Rattle.book.specs.declared.Layout.{Layout};
 ghost use Rattle.fields.specs.Fields.{overField};
-ghost use Rattle.load.specs.Load.{firstCard, outside, roomIn, storedAll, bytesStored, judged, loading};
+ghost use Rattle.load.specs.Load.{firstCard, outsideAt, outside, failsTest, roomIn, storedAll, bytesStored, judged, loading};
 use book::Cursor;
 use book::Entry;
 use book::Layout;
@@ -25,8 +25,16 @@ pub enum Loaded {
     Broken,
     // 51: text outside storage, and the card of the first such record.
     Outside(u16),
-    // 52: a field or the entry plus the displacement over 65535; the card of the first such record, 0 for the entry alone.
+    // 52: a field or the entry, moved, is over; the card of the first such record, 0 for the entry alone.
     Over(u16),
+}
+
+// What a record may fail before anything is stored.
+pub enum Test {
+    // 51: its text lies outside so many bytes of storage.
+    Outside(usize),
+    // 52: one of its fields, moved, is over.
+    Over,
 }
 
 // How many bytes of storage count.
@@ -40,10 +48,10 @@ fn room_of(storage: &[u8]) -> usize
     }
 }
 
-// Whether the record's text, moved, lies outside so many bytes.
+// 51: whether the record's text, moved, lies outside so many bytes.
 fn is_outside(p: Place, d: Displacement, room: usize) -> bool
-    requires { ⌜ (p .size ≤ 256) × (1 ≤ p .size) × (room ≤ 65536) ⌝ }
-    ensures { λ r. ⌜ r ≡ ltb room (p .address .0 + d .0 + p .size) ⌝ }
+    requires { ⌜ p .size ≤ 256 ⌝ }
+    ensures { λ r. ⌜ r ≡ outsideAt (movedBy d (p .address)) (p .size) room ⌝ }
 {
     match p.address.plus(d) {
         Moved::Over => true,
@@ -51,49 +59,32 @@ fn is_outside(p: Place, d: Displacement, room: usize) -> bool
     }
 }
 
-// 51: the card of the first record whose text lies outside so many bytes; 0 where there is none.
-fn first_outside(book: &[u8], d: Displacement, room: usize) -> u16
-    requires { ⌜ Kept (now book) ⌝ ∗ ⌜ room ≤ 65536 ⌝ }
-    ensures { λ r. ⌜ r ≡ firstCard (outside (d .0) room) (recordsIn (now (book .entry))) ⌝ }
+fn fails_test(test: Test, book: &[u8], p: Place, d: Displacement) -> bool
+    requires { ⌜ Sound (now book) p ⌝ }
+    ensures { λ r. ⌜ r ≡ failsTest test d (recordThere (now (book .entry)) p) ⌝ }
 {
-    let mut cursor = Cursor::first();
-    loop {
-        match cursor.next(book) {
-            Step::Broken => {
-                return 0;
-            }
-            Step::End => {
-                return 0;
-            }
-            Step::Record(p, behind) => {
-                if is_outside(p, d, room) {
-                    return p.card;
-                }
-                cursor = behind;
-            }
-        }
+    match test {
+        Test::Outside(room) => is_outside(p, d, room),
+        Test::Over => over_field(book, p, d),
     }
 }
 
-// 52: the card of the first record with a field that is over; 0 where there is none.
-fn first_over(book: &[u8], d: Displacement) -> u16
+// The card of the first record that fails a test; 0 where none does.
+fn first_failing(test: Test, book: &[u8], d: Displacement) -> u16
     requires { ⌜ Kept (now book) ⌝ }
-    ensures { λ r. ⌜ r ≡ firstCard (overField (d .0)) (recordsIn (now (book .entry))) ⌝ }
+    ensures { λ r. ⌜ r ≡ firstCard (failsTest test d) (recordsIn (now (book .entry))) ⌝ }
 {
     let mut cursor = Cursor::first();
     loop {
         match cursor.next(book) {
-            Step::Broken => {
-                return 0;
-            }
-            Step::End => {
-                return 0;
-            }
             Step::Record(p, behind) => {
-                if over_field(book, p, d) {
+                if fails_test(test, book, p, d) {
                     return p.card;
                 }
                 cursor = behind;
+            }
+            _ => {
+                return 0;
             }
         }
     }
@@ -102,21 +93,15 @@ fn first_over(book: &[u8], d: Displacement) -> u16
 // Every record in order, its fields moved; how many bytes that is.
 fn store_all(book: &[u8], d: Displacement, m: &mut [u8]) -> usize
     requires { ⌜ Kept (now book) ⌝ }
-    requires { ⌜ firstCard (outside (d .0) (roomIn (now m))) (recordsIn (now book)) ≡ 0 ⌝ }
-    requires { ⌜ firstCard (overField (d .0)) (recordsIn (now book)) ≡ 0 ⌝ }
+    requires { ⌜ firstCard (outside d (roomIn (now m))) (recordsIn (now book)) ≡ 0 ⌝ }
+    requires { ⌜ firstCard (overField d) (recordsIn (now book)) ≡ 0 ⌝ }
     ensures { λ r. ⌜ (r ≡ bytesStored (recordsIn (now (book .entry)))) × (r ≤ 1024000) ⌝ }
-    ensures { λ _. ⌜ now (m .exit) ≡ storedAll (d .0) (recordsIn (now (book .entry))) (now (m .entry)) ⌝ }
+    ensures { λ _. ⌜ now (m .exit) ≡ storedAll d (recordsIn (now (book .entry))) (now (m .entry)) ⌝ }
 {
     let mut count = 0;
     let mut cursor = Cursor::first();
     loop {
         match cursor.next(book) {
-            Step::Broken => {
-                return count;
-            }
-            Step::End => {
-                return count;
-            }
             Step::Record(p, behind) => {
                 match p.address.plus(d) {
                     Moved::Over => {
@@ -129,6 +114,9 @@ fn store_all(book: &[u8], d: Displacement, m: &mut [u8]) -> usize
                     }
                 }
             }
+            _ => {
+                return count;
+            }
         }
     }
 }
@@ -139,11 +127,11 @@ fn load_whole(book: &[u8], entry: Entry, d: Displacement, storage: &mut [u8]) ->
     ensures { λ r. ⌜ r ≡ judged entry d (recordsIn (now (book .entry))) (now (storage .entry)) .answer ⌝ }
     ensures { λ _. ⌜ now (storage .exit) ≡ judged entry d (recordsIn (now (book .entry))) (now (storage .entry)) .storage ⌝ }
 {
-    let outside = first_outside(book, d, room_of(storage));
+    let outside = first_failing(Test::Outside(room_of(storage)), book, d);
     if outside != 0 {
         return Loaded::Outside(outside);
     }
-    let over = first_over(book, d);
+    let over = first_failing(Test::Over, book, d);
     if over != 0 {
         return Loaded::Over(over);
     }

@@ -1,7 +1,6 @@
 // What the emulator calls: numbers and lent bytes in, packed answers out.
 ghost use mathlib.Core.Path.{_≡_};
 ghost use Prim.Native.Nat.{_<_, _^_};
-ghost use Rattle.values.specs.declared.Displacement.{Displacement};
 ghost use Rattle.load.specs.Load.{loading};
 ghost use Rattle.passes.specs.Assembly.{assembling};
 ghost use Rattle.mersclund.specs.Packed.{packedRefusal, packedEntry, packedLoad, packedAssembled};
@@ -12,10 +11,17 @@ use load::load_book;
 use passes::Assembled;
 use values::Displacement;
 
+// A bit of a packed answer: what is multiplied by it stands from that bit on.
+const BIT_32: u64 = 4294967296;
+
+const BIT_48: u64 = 281474976710656;
+
+const BIT_56: u64 = 72057594037927936;
+
 fn pack_refusal(number: u8, card: u16) -> u64
     ensures { λ r. ⌜ r ≡ packedRefusal number card ⌝ }
 {
-    number as u64 * 72057594037927936 + card as u64
+    number as u64 * BIT_56 + card as u64
 }
 
 fn pack_entry(entry: Entry) -> u64
@@ -23,7 +29,7 @@ fn pack_entry(entry: Entry) -> u64
 {
     match entry {
         Entry::Absent => 0,
-        Entry::At(start) => 281474976710656 + start.0 as u64 * 4294967296,
+        Entry::At(start) => BIT_48 + start.0 as u64 * BIT_32,
     }
 }
 
@@ -51,7 +57,7 @@ fn pack_assembled(answer: Assembled) -> u64
     ensures { λ r. ⌜ r ≡ packedAssembled answer ⌝ }
 {
     match answer {
-        Assembled::Made(length, names) => length as u64 + names as u64 * 4294967296,
+        Assembled::Made(length, names) => length as u64 + names as u64 * BIT_32,
         Assembled::Refused(number, card) => pack_refusal(number, card),
     }
 }

@@ -8,12 +8,13 @@ use lib.ListN.{length, getD, take, drop, length-map}
 use lib.Dec.{ltb, eqb}
 use borrow.Author.Tests.{ltb-true, ltb-false, eqb-true, eqb-false, eq-eqb, ne-eqb, lt-ltb, le-ltb}
 use Rattle.values.specs.Tests.{pick, both}
+use Rattle.values.proofs.Laws.{clash, both-true}
 use Rattle.names.specs.declared.Name.{Name}
-use Rattle.names.specs.declared.Entry.{Entry}
-use Rattle.names.specs.declared.Entry.the-variants.{Known, Unknown}
+use Rattle.names.specs.declared.Meaning.{Meaning}
+use Rattle.names.specs.declared.Meaning.the-variants.{Known, Unknown}
 use Rattle.names.specs.Names.{find, defined, above, ascending, refusalOf, nameRefusal}
 use Rattle.names.specs.Steps.{below}
-use Rattle.names.specs.Raised.{raisedEntry, raisedName}
+use Rattle.names.specs.Raised.{raisedMeaning, raisedName}
 
 -- FINDING
 
@@ -23,7 +24,7 @@ unfolding find defined
 find-defined x [] k = refl
 find-defined x (y ∷ ys) k = go (find-defined x ys k) (ltb (y .number) (x .number)) refl
   where
-    swap : (a b : Bool) → eqb (y .number) k ≡ a → eqb (x .number) k ≡ b → y .number < x .number → (e f g : Entry) → pick a e (pick b f g) ≡ pick b f (pick a e g)
+    swap : (a b : Bool) → eqb (y .number) k ≡ a → eqb (x .number) k ≡ b → y .number < x .number → (e f g : Meaning) → pick a e (pick b f g) ≡ pick b f (pick a e g)
     swap true true p q h e f g = let p′ = eqb-true (y .number) k p in let q′ = eqb-true (x .number) k q in absurd (omega arith)
     swap true false p q h e f g = refl
     swap false b p q h e f g = refl
@@ -45,12 +46,12 @@ defined-length x (y ∷ ys) = go (defined-length x ys) (ltb (y .number) (x .numb
 
 -- RAISING
 
-pub find-raised : (d : ℕ) (ns : List Name) (k : ℕ) → find (map (raisedName d) ns) k ≡ raisedEntry d (find ns k)
+pub find-raised : (d : ℕ) (ns : List Name) (k : ℕ) → find (map (raisedName d) ns) k ≡ raisedMeaning d (find ns k)
 unfolding find
 find-raised d [] k = refl
 find-raised d (x ∷ xs) k = rw (find-raised d xs k) (go (eqb (x .number) k))
   where
-    go : (b : Bool) → pick b (raisedEntry d (Known (x .value) (x .length))) (raisedEntry d (find xs k)) ≡ raisedEntry d (pick b (Known (x .value) (x .length)) (find xs k))
+    go : (b : Bool) → pick b (raisedMeaning d (Known (x .value) (x .length))) (raisedMeaning d (find xs k)) ≡ raisedMeaning d (pick b (Known (x .value) (x .length)) (find xs k))
     go true = refl
     go false = refl
 
@@ -71,7 +72,7 @@ pub refusal-none : (limit : ℕ) (ns : List Name) (k : ℕ) → nameRefusal limi
 unfolding nameRefusal
 refusal-none limit ns k e = go (find ns k) refl e
   where
-    go : (x : Entry) → find ns k ≡ x → refusalOf limit (length ns) x ≡ 0 → (find ns k ≡ Unknown) × (length ns < limit)
+    go : (x : Meaning) → find ns k ≡ x → refusalOf limit (length ns) x ≡ 0 → (find ns k ≡ Unknown) × (length ns < limit)
     go (Known v l) h q = absurd (omega arith)
     go Unknown h q = at (ltb (length ns) limit) refl q
       where
@@ -84,7 +85,7 @@ pub refusal-raised : (d limit : ℕ) (ns : List Name) (k : ℕ) → nameRefusal 
 unfolding nameRefusal
 refusal-raised d limit ns k = rw (find-raised d ns k, length-map ns (raisedName d)) (go (find ns k))
   where
-    go : (e : Entry) → refusalOf limit (length ns) (raisedEntry d e) ≡ refusalOf limit (length ns) e
+    go : (e : Meaning) → refusalOf limit (length ns) (raisedMeaning d e) ≡ refusalOf limit (length ns) e
     go (Known v l) = refl
     go Unknown = refl
 
@@ -94,21 +95,13 @@ pub ascending-none : ascending [] ≡ true
 unfolding ascending
 ascending-none = refl
 
-both-left : (a b : Bool) → both a b ≡ true → a ≡ true
-both-left true b e = refl
-both-left false b e = e
-
-both-right : (a b : Bool) → both a b ≡ true → b ≡ true
-both-right true b e = e
-both-right false b e = let z : _≡_ {A = ℕ} 0 1 = cc in absurd (omega arith)
-
 -- a number that is not above k is none of those above k
 find-above : (ns : List Name) (a k : ℕ) → above a ns ≡ true → k ≤ a → find ns k ≡ Unknown
 unfolding find above
 find-above [] a k e h = refl
 find-above (x ∷ xs) a k e h =
-    let l = ltb-true a (x .number) (both-left (ltb a (x .number)) (above (x .number) xs) e) in
-    rw (ne-eqb (x .number) k (λ q. omega arith)) (find-above xs (x .number) k (both-right (ltb a (x .number)) (above (x .number) xs) e) (omega arith))
+    let l = ltb-true a (x .number) (both-true (ltb a (x .number)) (above (x .number) xs) e .0) in
+    rw (ne-eqb (x .number) k (λ q. omega arith)) (find-above xs (x .number) k (both-true (ltb a (x .number)) (above (x .number) xs) e .1) (omega arith))
 
 above-defined : (x : Name) (ns : List Name) (a : ℕ) → a < x .number → above a ns ≡ true → find ns (x .number) ≡ Unknown → above a (defined x ns) ≡ true
 unfolding find above defined
@@ -116,15 +109,15 @@ above-defined x [] a h e f = rw (lt-ltb a (x .number) h)
 above-defined x (y ∷ ys) a h e f = go (above-defined x ys (y .number)) (ltb (y .number) (x .number)) (eqb (y .number) (x .number)) refl refl f
   where
     l : a < y .number
-    l = ltb-true a (y .number) (both-left (ltb a (y .number)) (above (y .number) ys) e)
+    l = ltb-true a (y .number) (both-true (ltb a (y .number)) (above (y .number) ys) e .0)
 
     r : above (y .number) ys ≡ true
-    r = both-right (ltb a (y .number)) (above (y .number) ys) e
+    r = both-true (ltb a (y .number)) (above (y .number) ys) e .1
 
     go : (y .number < x .number → above (y .number) ys ≡ true → find ys (x .number) ≡ Unknown → above (y .number) (defined x ys) ≡ true)
         → (b c : Bool) → ltb (y .number) (x .number) ≡ b → eqb (y .number) (x .number) ≡ c → pick c (Known (y .value) (y .length)) (find ys (x .number)) ≡ Unknown
         → above a (pick b (y ∷ defined x ys) (x ∷ y ∷ ys)) ≡ true
-    go ih b true p q u = let z : _≡_ {A = ℕ} 0 1 = cc in absurd (omega arith)
+    go ih b true p q u = clash (cc)
     go ih true false p q u = rw (lt-ltb a (y .number) l) (ih (ltb-true (y .number) (x .number) p) r u)
     go ih false false p q u =
         let n : x .number < y .number = omega (arith, ltb-false (y .number) (x .number) p, eqb-false (y .number) (x .number) q) in
@@ -138,7 +131,7 @@ ascending-defined x (y ∷ ys) e f = go (ltb (y .number) (x .number)) (eqb (y .n
   where
     go : (b c : Bool) → ltb (y .number) (x .number) ≡ b → eqb (y .number) (x .number) ≡ c → pick c (Known (y .value) (y .length)) (find ys (x .number)) ≡ Unknown
         → ascending (pick b (y ∷ defined x ys) (x ∷ y ∷ ys)) ≡ true
-    go b true p q u = let z : _≡_ {A = ℕ} 0 1 = cc in absurd (omega arith)
+    go b true p q u = clash (cc)
     go true false p q u = above-defined x ys (y .number) (ltb-true (y .number) (x .number) p) e u
     go false false p q u =
         let n : x .number < y .number = omega (arith, ltb-false (y .number) (x .number) p, eqb-false (y .number) (x .number) q) in
@@ -170,10 +163,10 @@ below-down k (x ∷ xs) (suc i) z h l = go (ltb (x .number) k) (below-down k xs 
 above-at : (a : ℕ) (ns : List Name) (i : ℕ) (z : Name) → above a ns ≡ true → i < length ns → a < getD ns i z .number
 unfolding above
 above-at a [] i z e l = absurd (omega arith)
-above-at a (x ∷ xs) zero z e l = ltb-true a (x .number) (both-left (ltb a (x .number)) (above (x .number) xs) e)
+above-at a (x ∷ xs) zero z e l = ltb-true a (x .number) (both-true (ltb a (x .number)) (above (x .number) xs) e .0)
 above-at a (x ∷ xs) (suc i) z e l =
-    let h = ltb-true a (x .number) (both-left (ltb a (x .number)) (above (x .number) xs) e) in
-    let g = above-at (x .number) xs i z (both-right (ltb a (x .number)) (above (x .number) xs) e) (omega arith) in
+    let h = ltb-true a (x .number) (both-true (ltb a (x .number)) (above (x .number) xs) e .0) in
+    let g = above-at (x .number) xs i z (both-true (ltb a (x .number)) (above (x .number) xs) e .1) (omega arith) in
     omega arith
 
 below-above : (k a : ℕ) (ns : List Name) (i : ℕ) (z : Name) → above a ns ≡ true → getD ns i z .number < k → i < length ns → i < below k ns
@@ -181,7 +174,7 @@ unfolding below above
 below-above k a [] i z e h l = absurd (omega arith)
 below-above k a (x ∷ xs) zero z e h l = rw (lt-ltb (x .number) k h) (omega arith)
 below-above k a (x ∷ xs) (suc i) z e h l =
-    let r = both-right (ltb a (x .number)) (above (x .number) xs) e in
+    let r = both-true (ltb a (x .number)) (above (x .number) xs) e .1 in
     let g = above-at (x .number) xs i z r (omega arith) in
     let ih = below-above k (x .number) xs i z r h (omega arith) in
     let q : x .number < k = omega arith in
@@ -220,7 +213,7 @@ missed k x [] z e n = go (ltb (x .number) k) refl n
     go : (b : Bool) → ltb (x .number) k ≡ b → (pick b 1 0 < 1 → getD (x ∷ []) (pick b 1 0) z .number ≡ k → ⊥) → pick (eqb (x .number) k) (Known (x .value) (x .length)) Unknown ≡ Unknown
     go true p n = rw (ne-eqb (x .number) k (λ q. omega (arith, ltb-true (x .number) k p)))
     go false p n = rw (ne-eqb (x .number) k (λ q. n (omega arith) q))
-missed k x (y ∷ ys) z e n = go (missed k y ys z (both-right (ltb (x .number) (y .number)) (above (y .number) ys) e)) (ltb (x .number) k) refl n
+missed k x (y ∷ ys) z e n = go (missed k y ys z (both-true (ltb (x .number) (y .number)) (above (y .number) ys) e .1)) (ltb (x .number) k) refl n
   where
     go : ((below k (y ∷ ys) < suc (length ys) → getD (y ∷ ys) (below k (y ∷ ys)) z .number ≡ k → ⊥) → find (y ∷ ys) k ≡ Unknown)
         → (b : Bool) → ltb (x .number) k ≡ b

@@ -11,11 +11,12 @@ use borrow.Author.Fill.{fill-more}
 use Rattle.values.specs.Words.{word, part}
 use Rattle.values.specs.declared.Value.{Value}
 use Rattle.values.specs.declared.Value.the-variants.{Absolute, Relocatable}
+use Rattle.values.specs.Values.{amountOf}
 use Rattle.values.proofs.Laws.{part-length, getD-part}
 use Rattle.names.specs.declared.Name.{Name}
-use Rattle.names.specs.declared.Entry.the-variants.{Known, Unknown}
+use Rattle.names.specs.declared.Meaning.the-variants.{Known, Unknown}
 use Rattle.names.specs.Names.{find, defined, ascending}
-use Rattle.names.specs.Table.{valueOf, kindOf, amountOf, numberAt, nameAt, entryAt, namesFrom, namesIn, zeroed}
+use Rattle.names.specs.Table.{valueOf, kindOf, numberAt, nameAt, meaningAt, namesFrom, namesIn, zeroed}
 use Rattle.names.specs.Steps.{below, shifted, nameBytes}
 use Rattle.names.proofs.Names.{below-le, below-up, below-down, find-met, find-missed, defined-place}
 
@@ -86,7 +87,7 @@ module _ (n : ℕ) (t : List ℕ) (k : ℕ) where
       let z = nameAt t 0 in
       below-down k (namesIn n t) i z (rw (names-at n t i z h) l) (rw (names-length n t) h)
 
-  pub place-met : (i : ℕ) → i ≡ below k (namesIn n t) → i < n → numberAt t (16 * i) ≡ k → find (namesIn n t) k ≡ entryAt t (16 * i)
+  pub place-met : (i : ℕ) → i ≡ below k (namesIn n t) → i < n → numberAt t (16 * i) ≡ k → find (namesIn n t) k ≡ meaningAt t (16 * i)
   place-met i e h l =
       let z = nameAt t 0 in
       let g : below k (namesIn n t) < n = omega arith in

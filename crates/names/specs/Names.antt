@@ -6,11 +6,11 @@ use lib.ListN.{length}
 use lib.Dec.{ltb, eqb}
 use Rattle.values.specs.Tests.{pick, both}
 use Rattle.names.specs.declared.Name.{Name}
-use Rattle.names.specs.declared.Entry.{Entry}
-use Rattle.names.specs.declared.Entry.the-variants.{Known, Unknown}
+use Rattle.names.specs.declared.Meaning.{Meaning}
+use Rattle.names.specs.declared.Meaning.the-variants.{Known, Unknown}
 
 -- what the names say of a number: the value and the length of the name, or that it is not defined
-unfoldable pub find : List Name → ℕ → Entry
+unfoldable pub find : List Name → ℕ → Meaning
 find [] k = Unknown
 find (x ∷ xs) k = pick (eqb (x .number) k) (Known (x .value) (x .length)) (find xs k)
 
@@ -30,7 +30,7 @@ ascending [] = true
 ascending (x ∷ xs) = above (x .number) xs
 
 -- 16: already defined; 17: over the limit of names
-abbrev pub refusalOf : ℕ → ℕ → Entry → ℕ
+abbrev pub refusalOf : ℕ → ℕ → Meaning → ℕ
 refusalOf limit count (Known v l) = 16
 refusalOf limit count Unknown = pick (ltb count limit) 0 17
 

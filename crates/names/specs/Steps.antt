@@ -6,8 +6,9 @@ use lib.Dec.{ltb}
 use lib.Seq.{sets}
 use Rattle.values.specs.Tests.{pick}
 use Rattle.values.specs.Words.{twoBytes, part}
+use Rattle.values.specs.Values.{amountOf}
 use Rattle.names.specs.declared.Name.{Name}
-use Rattle.names.specs.Table.{kindOf, amountOf, namesIn}
+use Rattle.names.specs.Table.{kindOf, namesIn}
 
 -- how many names stand before the first whose number is not lower than k
 unfoldable pub below : ℕ → List Name → ℕ

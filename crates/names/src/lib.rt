@@ -3,6 +3,7 @@
 use values::Absolute;
 use values::Relocatable;
 use values::Value;
+use values::amount_of;
 use values::words::put_bytes;
 use values::words::wide;
 use values::words::word_at;
@@ -11,8 +12,9 @@ ghost use mathlib.Core.Bool.{true};
 ghost use Prim.Native.Nat.{_+_, _*_, _≤_, _<_};
 ghost use lib.ListN.{length, drop};
 ghost use lib.Seq.{sets};
+ghost use Rattle.values.specs.Values.{amountOf};
 ghost use Rattle.names.specs.Names.{find, defined, ascending, nameRefusal};
-ghost use Rattle.names.specs.Table.{valueOf, kindOf, amountOf, numberAt, entryAt, namesIn, zeroed};
+ghost use Rattle.names.specs.Table.{valueOf, kindOf, numberAt, meaningAt, namesIn, zeroed};
 ghost use Rattle.names.specs.Steps.{below, shifted, nameBytes, put};
 
 // A name: its number (six EBCDIC bytes, base 256), what it stands for, its length.
@@ -23,7 +25,7 @@ pub struct Name {
 }
 
 // What the table says of a number.
-pub enum Entry {
+pub enum Meaning {
     Known(Value, u16),
     Unknown,
 }
@@ -47,15 +49,6 @@ fn kind_of(v: Value) -> u8
     }
 }
 
-pub fn amount_of(v: Value) -> u16
-    ensures { λ r. ⌜ r ≡ amountOf v ⌝ }
-{
-    match v {
-        Value::Absolute(a) => a.0,
-        Value::Relocatable(a) => a.0,
-    }
-}
-
 fn number_at(t: &[u8], at: usize) -> u64
     requires { ⌜ at + 16 ≤ length (now t) ⌝ }
     ensures { λ r. ⌜ r ≡ numberAt (now (t .entry)) at ⌝ }
@@ -69,12 +62,12 @@ fn number_at(t: &[u8], at: usize) -> u64
     n6 as u64
 }
 
-fn entry_at(t: &[u8], at: usize) -> Entry
+fn meaning_at(t: &[u8], at: usize) -> Meaning
     requires { ⌜ at + 16 ≤ length (now t) ⌝ }
-    ensures { λ r. ⌜ r ≡ entryAt (now (t .entry)) at ⌝ }
+    ensures { λ r. ⌜ r ≡ meaningAt (now (t .entry)) at ⌝ }
 {
     let value = value_of(t[at + 7], word_at(t, at + 8));
-    Entry::Known(value, word_at(t, at + 10))
+    Meaning::Known(value, word_at(t, at + 10))
 }
 
 // How many names come before a number, by bisection.
@@ -96,7 +89,7 @@ fn place(t: &[u8], count: usize, number: u64) -> usize
 }
 
 // What the first `count` records say of a number.
-pub fn look_up(t: &[u8], count: usize, number: u64) -> Entry
+pub fn look_up(t: &[u8], count: usize, number: u64) -> Meaning
     requires { ⌜ (16 * count ≤ length (now t)) × (ascending (namesIn count (now t)) ≡ true) ⌝ }
     ensures { λ r. ⌜ r ≡ find (namesIn count (now (t .entry))) number ⌝ }
 {
@@ -104,10 +97,10 @@ pub fn look_up(t: &[u8], count: usize, number: u64) -> Entry
     if i < count {
         let at = 16 * i;
         if number_at(t, at) == number {
-            return entry_at(t, at);
+            return meaning_at(t, at);
         }
     }
-    Entry::Unknown
+    Meaning::Unknown
 }
 
 // The bytes from `from` to `to` go 16 places up.
@@ -170,8 +163,8 @@ pub fn name_refusal(t: &[u8], count: usize, limit: usize, number: u64) -> u8
     ensures { λ r. ⌜ r ≡ nameRefusal limit (namesIn count (now (t .entry))) number ⌝ }
 {
     match look_up(t, count, number) {
-        Entry::Known(_, _) => 16,
-        Entry::Unknown => { if count < limit { 0 } else { 17 } }
+        Meaning::Known(_, _) => 16,
+        Meaning::Unknown => { if count < limit { 0 } else { 17 } }
     }
 }
 

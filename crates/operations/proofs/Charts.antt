@@ -6,7 +6,7 @@ use mathlib.Core.Bool.{Bool, true, false, not}
 use lib.Dec.{eqb}
 use Rattle.values.specs.Tests.{both, either}
 use Rattle.operations.specs.declared.Operation.{Operation}
-use Rattle.operations.specs.declared.Operation.the-variants.{Branch, Move, Jump}
+use Rattle.operations.specs.declared.Operation.the-variants.{Branch, HalfBytes, Jump}
 use Rattle.operations.specs.Rows.{Row, lettersOf, number5, operationIn}
 use Rattle.operations.specs.Codes.{twoAddress, oneAddress, branch}
 use Rattle.operations.specs.Charts.{Chart, charts, bytesOf}
@@ -51,7 +51,7 @@ pub extended-branches : map rowBytes extendedBranches ≡ map (bytesAs (Branch 0
 unfolding extendedBranches branch
 extended-branches = refl
 
-pub extended-moves : map rowBytes extendedMoves ≡ map (bytesAs Move) extendedMoves
+pub extended-moves : map rowBytes extendedMoves ≡ map (bytesAs HalfBytes) extendedMoves
 unfolding extendedMoves twoAddress
 extended-moves = refl
 

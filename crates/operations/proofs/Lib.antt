@@ -2,3 +2,4 @@
 pub mod Search
 pub mod Table
 pub mod Charts
+pub mod RowLaws

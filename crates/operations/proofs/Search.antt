@@ -1,6 +1,6 @@
 -- A row is found by halving where the numbers of the rows rise.
 use Prim.Native.Nat.{ℕ, zero, suc, _+_, _≤_, _<_}
-use mathlib.Core.List.{List, [], _∷_}
+use mathlib.Core.List.{List}
 use mathlib.Core.Path.{_≡_, refl, sym, ap, _∙_, subst}
 use mathlib.Core.Bool.{Bool, true, false}
 use native.Mathlib.Decide.{decLe}
@@ -8,8 +8,8 @@ use native.Mathlib.Omega.{arith}
 use native.Mathlib.Numerals.{add-one}
 use borrow.Author.Tests.{ltb-true, eqb-true, eq-eqb, ne-eqb}
 use lib.Dec.{ltb, eqb}
-use lib.ListN.{length, getD}
-use Rattle.values.specs.Tests.{pick, both}
+use lib.ListN.{length}
+use Rattle.values.specs.Tests.{pick}
 use Rattle.letters.proofs.Every.{every, at}
 use Rattle.operations.specs.Sorted.{keyAt, rowFrom, rowIn, Rising}
 

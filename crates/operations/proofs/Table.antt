@@ -1,5 +1,5 @@
 -- The rules of the operation table, computed: its letters rise, it is the list of Model 10's operations, and no mnemonic is there twice.
-use Prim.Native.Nat.{ℕ, zero, suc, _+_, _≤_, _<_}
+use Prim.Native.Nat.{ℕ, zero, suc, _+_, _-_, _≤_, _<_}
 use mathlib.Core.List.{List, [], _∷_, map}
 use mathlib.Core.Path.{_≡_, refl, sym, ap, _∙_}
 use mathlib.Core.Bool.{Bool, true, false}
@@ -9,26 +9,31 @@ use borrow.Author.Tests.{ltb-true, eqb-true}
 use lib.Dec.{ltb, eqb}
 use lib.ListN.{length, getD, List·getD-eq-default, List·getD-map}
 use Rattle.values.specs.Tests.{pick, both}
-use Rattle.letters.proofs.Every.{every, both-left, both-right}
-use Rattle.operations.specs.Rows.{lettersOf, number5, Row, operationIn}
+use Rattle.letters.proofs.Every.{every}
+use Rattle.operations.specs.Rows.{lettersOf, five, number5, Row, operationIn}
 use Rattle.operations.specs.Model10.{ownOperations, twoAddresses, oneAddresses, branches, jumps, extendedMoves, extendedBranches, extendedJumps, model10}
-use Rattle.operations.specs.Sorted.{keyAt, rowFrom, rowIn, Rising, mnemonics, sortedLetters, sortedOperations}
+use Rattle.operations.specs.Sorted.{keyAt, rowFrom, rowIn, Rising, inserted, sorted, sortedLetters, sortedOperations}
 use Rattle.operations.specs.declared.Operation.{Operation}
 use Rattle.operations.specs.declared.Operation.the-variants.{Unknown}
-use Rattle.operations.proofs.Search.{row-found, row-within, rises, rising-by}
+use Rattle.operations.proofs.Search.{row-found, rises, rising-by}
+use Rattle.values.proofs.Laws.{both-true, Bytes, base256-same}
 
 -- THE LETTERS RISE
 
-rises-everywhere : every (rises sortedLetters) 0 74 ≡ true
-unfolding every sortedLetters mnemonics lettersOf number5
+-- the steps from a row to the next
+steps : ℕ
+steps = length sortedLetters - 1
+
+rises-everywhere : every (rises sortedLetters) 0 steps ≡ true
+unfolding steps every sortedLetters sorted inserted model10 ownOperations twoAddresses oneAddresses branches jumps extendedMoves extendedBranches extendedJumps lettersOf number5
 rises-everywhere = refl
 
-pub sorted-length : length sortedLetters ≡ 75
-unfolding sortedLetters mnemonics
+sorted-length : length sortedLetters ≡ steps + 1
+unfolding steps sortedLetters sorted inserted model10 ownOperations twoAddresses oneAddresses branches jumps extendedMoves extendedBranches extendedJumps lettersOf number5
 sorted-length = refl
 
 pub sorted-rising : Rising sortedLetters
-sorted-rising = rising-by sortedLetters 74 sorted-length rises-everywhere
+sorted-rising = rising-by sortedLetters steps sorted-length rises-everywhere
 
 -- EACH ROW IS WHAT THE LIST SAYS OF ITS LETTERS
 
@@ -37,7 +42,7 @@ abbrev pub said : List ℕ → Operation
 said letters = operationIn model10 (number5 letters)
 
 pub each-row : map said sortedLetters ≡ sortedOperations
-unfolding operationIn model10 ownOperations twoAddresses oneAddresses branches jumps extendedMoves extendedBranches extendedJumps sortedLetters mnemonics sortedOperations lettersOf number5
+unfolding operationIn model10 ownOperations twoAddresses oneAddresses branches jumps extendedMoves extendedBranches extendedJumps sortedLetters sortedOperations sorted inserted lettersOf number5
 each-row = refl
 
 -- past the last row no letters stand, and they are no operation
@@ -58,7 +63,7 @@ inRows ls [] = true
 inRows ls (r ∷ rs) = both (ltb (rowIn ls (number5 (r .letters))) (length ls)) (inRows ls rs)
 
 pub all-in-rows : inRows sortedLetters model10 ≡ true
-unfolding inRows rowFrom model10 ownOperations twoAddresses oneAddresses branches jumps extendedMoves extendedBranches extendedJumps sortedLetters mnemonics lettersOf number5
+unfolding inRows rowFrom model10 ownOperations twoAddresses oneAddresses branches jumps extendedMoves extendedBranches extendedJumps sortedLetters sorted inserted lettersOf number5
 all-in-rows = refl
 
 not-in-rows : (ls : List (List ℕ)) (rs : List Row) (key : ℕ) → inRows ls rs ≡ true → length ls ≤ rowIn ls key → operationIn rs key ≡ Unknown
@@ -66,13 +71,13 @@ unfolding inRows operationIn
 not-in-rows ls [] key e h = refl
 not-in-rows ls (r ∷ rs) key e h =
     go (eqb (number5 (r .letters)) key) refl
-    (not-in-rows ls rs key (both-right (ltb (rowIn ls (number5 (r .letters))) (length ls)) (inRows ls rs) e) h)
+    (not-in-rows ls rs key (both-true (ltb (rowIn ls (number5 (r .letters))) (length ls)) (inRows ls rs) e .1) h)
   where
     go : (x : Bool) → eqb (number5 (r .letters)) key ≡ x → operationIn rs key ≡ Unknown → pick x (r .operation) (operationIn rs key) ≡ Unknown
     go true q ih =
         let same : number5 (r .letters) ≡ key = eqb-true (number5 (r .letters)) key q in
         let there : rowIn ls (number5 (r .letters)) < length ls =
-        ltb-true _ _ (both-left (ltb (rowIn ls (number5 (r .letters))) (length ls)) (inRows ls rs) e) in
+        ltb-true _ _ (both-true (ltb (rowIn ls (number5 (r .letters))) (length ls)) (inRows ls rs) e .0) in
         let at-key : rowIn ls (number5 (r .letters)) ≡ rowIn ls key = ap (rowIn ls) same in
         absurd (omega arith)
     go false q ih = ih
@@ -108,13 +113,15 @@ no-mnemonic-twice = refl
 
 -- LETTERS AND THEIR NUMBER
 
--- letters with one number are the same, one by one
-pub same-letters : (a b : List ℕ) → ((k : ℕ) → getD a k 0 < 256) → ((k : ℕ) → getD b k 0 < 256) → number5 a ≡ number5 b
-    → (k : ℕ) → k < 5 → getD a k 0 ≡ getD b k 0
+five-bytes : (a : List ℕ) → Bytes a → Bytes (five a)
+five-bytes a f zero = f 0
+five-bytes a f (suc zero) = f 1
+five-bytes a f (suc (suc zero)) = f 2
+five-bytes a f (suc (suc (suc zero))) = f 3
+five-bytes a f (suc (suc (suc (suc zero)))) = f 4
+five-bytes a f (suc (suc (suc (suc (suc k))))) = omega arith
+
+-- letters with one number are the same, all five of them
+pub same-letters : (a b : List ℕ) → Bytes a → Bytes b → number5 a ≡ number5 b → five a ≡ five b
 unfolding number5
-same-letters a b f g e zero h = omega (arith, f 0, f 1, f 2, f 3, f 4, g 0, g 1, g 2, g 3, g 4)
-same-letters a b f g e (suc zero) h = omega (arith, f 0, f 1, f 2, f 3, f 4, g 0, g 1, g 2, g 3, g 4)
-same-letters a b f g e (suc (suc zero)) h = omega (arith, f 0, f 1, f 2, f 3, f 4, g 0, g 1, g 2, g 3, g 4)
-same-letters a b f g e (suc (suc (suc zero))) h = omega (arith, f 0, f 1, f 2, f 3, f 4, g 0, g 1, g 2, g 3, g 4)
-same-letters a b f g e (suc (suc (suc (suc zero)))) h = omega (arith, f 0, f 1, f 2, f 3, f 4, g 0, g 1, g 2, g 3, g 4)
-same-letters a b f g e (suc (suc (suc (suc (suc k))))) h = absurd (omega arith)
+same-letters a b f g e = base256-same (five a) (five b) refl (five-bytes a f) (five-bytes b g) e

@@ -3,9 +3,11 @@ use Prim.Native.Nat.{ℕ}
 use Prim.Native.String.{String}
 use mathlib.Core.List.{List, [], _∷_}
 use Rattle.operations.specs.Rows.{lettersOf}
-use Rattle.operations.specs.Codes.{operationByte}
+use Rattle.operations.specs.Traits.{traitsOf}
+use Rattle.operations.specs.Codes.{twoAddress, oneAddress, branch}
 use Rattle.operations.specs.declared.Operation.{Operation}
-use Rattle.operations.specs.declared.Operation.the-variants.{Unknown, Start, Equ, Org, Dc, Ds, Using, Drop, End, Decimal, Characters, Move, MoveOf, OneAddress, Branch, LoadAddress, BranchOn, Jump, JumpOn}
+use Rattle.operations.specs.declared.traits.Opcode.{Opcode}
+use Rattle.operations.specs.declared.traits.Opcode.the-variants.{NoByte, ByTwoModes, ByOneMode, ByBranchMode, Fixed}
 
 -- a chart: a mnemonic and the operation bytes that it may have
 pub record Chart : Type 0 where
@@ -45,31 +47,14 @@ charts =
     ∷ []
 
 -- the operation bytes that the formula gives at all modes
-abbrev pub ofTwo : Operation → List ℕ
-ofTwo o =
-    operationByte o 0 0 ∷ operationByte o 0 1 ∷ operationByte o 0 2 ∷ operationByte o 1 0 ∷ operationByte o 1 1 ∷ operationByte o 1 2
-    ∷ operationByte o 2 0 ∷ operationByte o 2 1 ∷ operationByte o 2 2 ∷ []
-
-abbrev pub ofOne : Operation → List ℕ
-ofOne o = operationByte o 0 0 ∷ operationByte o 1 1 ∷ operationByte o 2 2 ∷ []
+abbrev pub bytesBy : Opcode → List ℕ
+bytesBy NoByte = []
+bytesBy (ByTwoModes low) =
+    twoAddress 0 0 low ∷ twoAddress 0 1 low ∷ twoAddress 0 2 low ∷ twoAddress 1 0 low ∷ twoAddress 1 1 low ∷ twoAddress 1 2 low
+    ∷ twoAddress 2 0 low ∷ twoAddress 2 1 low ∷ twoAddress 2 2 low ∷ []
+bytesBy (ByOneMode low) = oneAddress 0 low ∷ oneAddress 1 low ∷ oneAddress 2 low ∷ []
+bytesBy (ByBranchMode low) = branch 0 low ∷ branch 1 low ∷ branch 2 low ∷ []
+bytesBy (Fixed byte) = byte ∷ []
 
 abbrev pub bytesOf : Operation → List ℕ
-bytesOf Unknown = []
-bytesOf Start = []
-bytesOf Equ = []
-bytesOf Org = []
-bytesOf Dc = []
-bytesOf Ds = []
-bytesOf Using = []
-bytesOf Drop = []
-bytesOf End = []
-bytesOf (Decimal low) = ofTwo (Decimal low)
-bytesOf (Characters low) = ofTwo (Characters low)
-bytesOf Move = ofTwo Move
-bytesOf (MoveOf item) = ofTwo (MoveOf item)
-bytesOf (OneAddress low) = ofOne (OneAddress low)
-bytesOf (Branch low) = ofOne (Branch low)
-bytesOf LoadAddress = ofOne LoadAddress
-bytesOf (BranchOn q) = ofOne (BranchOn q)
-bytesOf Jump = operationByte Jump 0 0 ∷ []
-bytesOf (JumpOn q) = operationByte (JumpOn q) 0 0 ∷ []
+bytesOf o = bytesBy (traitsOf o .opcode)

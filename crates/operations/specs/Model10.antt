@@ -1,7 +1,7 @@
 -- The operations of a Model 10: the assembler's own, document 01's "Instructions" and the manual's table of extended mnemonics, each in its order.
 use mathlib.Core.List.{List, [], _∷_, _++_}
 use Rattle.operations.specs.Rows.{Row, row}
-use Rattle.operations.specs.declared.Operation.the-variants.{Start, Equ, Org, Dc, Ds, Using, Drop, End, Decimal, Characters, Move, MoveOf, OneAddress, Branch, LoadAddress, BranchOn, Jump, JumpOn}
+use Rattle.operations.specs.declared.Operation.the-variants.{Start, Equ, Org, Dc, Ds, Using, Drop, End, TwoLengths, OneLength, HalfBytes, HalfBytesOf, OneAddress, Branch, LoadAddress, BranchOn, Jump, JumpOn}
 
 -- "START, EQU, ORG, DC, DS, USING, DROP, END"
 unfoldable pub ownOperations : List Row
@@ -12,9 +12,9 @@ ownOperations =
 -- two address, with the low half; ZAZ, AZ and SZ have a length on each operand, MVX has an item
 unfoldable pub twoAddresses : List Row
 twoAddresses =
-    row "ZAZ" (Decimal 0x4) ∷ row "AZ" (Decimal 0x6) ∷ row "SZ" (Decimal 0x7) ∷ row "MVX" Move ∷
-    row "ED" (Characters 0xA) ∷ row "ITC" (Characters 0xB) ∷ row "MVC" (Characters 0xC) ∷ row "CLC" (Characters 0xD) ∷
-    row "ALC" (Characters 0xE) ∷ row "SLC" (Characters 0xF) ∷ []
+    row "ZAZ" (TwoLengths 0x4) ∷ row "AZ" (TwoLengths 0x6) ∷ row "SZ" (TwoLengths 0x7) ∷ row "MVX" HalfBytes ∷
+    row "ED" (OneLength 0xA) ∷ row "ITC" (OneLength 0xB) ∷ row "MVC" (OneLength 0xC) ∷ row "CLC" (OneLength 0xD) ∷
+    row "ALC" (OneLength 0xE) ∷ row "SLC" (OneLength 0xF) ∷ []
 
 -- one address
 unfoldable pub oneAddresses : List Row
@@ -36,7 +36,7 @@ jumps =
 -- the manual's table: extended moves with the item of MVX
 unfoldable pub extendedMoves : List Row
 extendedMoves =
-    row "MZZ" (MoveOf 0x00) ∷ row "MNZ" (MoveOf 0x02) ∷ row "MZN" (MoveOf 0x01) ∷ row "MNN" (MoveOf 0x03) ∷ []
+    row "MZZ" (HalfBytesOf 0x00) ∷ row "MNZ" (HalfBytesOf 0x02) ∷ row "MZN" (HalfBytesOf 0x01) ∷ row "MNN" (HalfBytesOf 0x03) ∷ []
 
 -- extended branches with the Q code of BC
 unfoldable pub extendedBranches : List Row

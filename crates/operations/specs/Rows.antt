@@ -1,10 +1,11 @@
 -- An operation table, and the operation that a card's letters name in it.
-use Prim.Native.Nat.{ℕ, zero, suc, _+_, _-_, _*_}
+use Prim.Native.Nat.{ℕ, zero, suc, _+_, _-_}
 use Prim.Native.String.{String, [] as none, _∷_ as _then_}
 use mathlib.Core.List.{List, [], _∷_}
 use lib.ListN.{getD}
 use lib.Dec.{ltb, leb, eqb}
 use Rattle.values.specs.Tests.{pick}
+use Rattle.values.specs.Words.{base256}
 use Rattle.letters.specs.Text.{byte}
 use Rattle.operations.specs.declared.Operation.{Operation}
 use Rattle.operations.specs.declared.Operation.the-variants.{Unknown}
@@ -15,9 +16,13 @@ lettersOf zero s = []
 lettersOf (suc n) none = byte " " ∷ lettersOf n none
 lettersOf (suc n) (c then s) = byte c ∷ lettersOf n s
 
+-- the first five letters
+abbrev pub five : List ℕ → List ℕ
+five l = getD l 0 0 ∷ getD l 1 0 ∷ getD l 2 0 ∷ getD l 3 0 ∷ getD l 4 0 ∷ []
+
 -- five letters as one number, base 256, so that letters are compared by one test
 unfoldable pub number5 : List ℕ → ℕ
-number5 l = (((getD l 0 0 * 256 + getD l 1 0) * 256 + getD l 2 0) * 256 + getD l 3 0) * 256 + getD l 4 0
+number5 l = base256 (five l)
 
 -- a row of an operation table: a mnemonic's letters, and what it stands for
 pub record Row : Type 0 where

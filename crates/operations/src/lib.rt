@@ -1,5 +1,8 @@
 // The operation table of a Model 10: the operation that a card's letters name, and the operation byte at each mode.
 pub mod codes;
+pub mod traits;
+
+use values::words::wide64;
 
 ghost use mathlib.Core.Path.{_≡_};
 ghost use Prim.Native.Nat.{_-_, _<_};
@@ -21,12 +24,12 @@ pub enum Operation {
     Drop,
     End,
     // Two addresses with a length on each: ZAZ, AZ, SZ.
-    Decimal(u8),
-    // Two addresses with one length.
-    Characters(u8),
+    TwoLengths(u8),
+    // Two addresses with one length: ED, ITC, MVC, CLC, ALC, SLC.
+    OneLength(u8),
     // MVX, and its extended mnemonics.
-    Move,
-    MoveOf(u8),
+    HalfBytes,
+    HalfBytesOf(u8),
     OneAddress(u8),
     // BC and TIO.
     Branch(u8),
@@ -36,8 +39,11 @@ pub enum Operation {
     JumpOn(u8),
 }
 
+// How many mnemonics there are.
+const ROWS: usize = 75;
+
 // The mnemonics, in the order of their letters.
-const LETTERS: [[u8; 5]; 75] = [
+const LETTERS: [[u8; 5]; ROWS] = [
     *b"A    ",
     *b"ALC  ",
     *b"AZ   ",
@@ -116,10 +122,10 @@ const LETTERS: [[u8; 5]; 75] = [
 ];
 
 // What each of them stands for.
-const OPERATIONS: [Operation; 75] = [
+const OPERATIONS: [Operation; ROWS] = [
     Operation::OneAddress(0x6),
-    Operation::Characters(0xE),
-    Operation::Decimal(0x6),
+    Operation::OneLength(0xE),
+    Operation::TwoLengths(0x6),
     Operation::BranchOn(0x87),
     Operation::Branch(0x0),
     Operation::BranchOn(0x81),
@@ -140,15 +146,15 @@ const OPERATIONS: [Operation; 75] = [
     Operation::BranchOn(0x84),
     Operation::BranchOn(0x10),
     Operation::BranchOn(0x81),
-    Operation::Characters(0xD),
+    Operation::OneLength(0xD),
     Operation::OneAddress(0xD),
     Operation::Dc,
     Operation::Drop,
     Operation::Ds,
-    Operation::Characters(0xA),
+    Operation::OneLength(0xA),
     Operation::End,
     Operation::Equ,
-    Operation::Characters(0xB),
+    Operation::OneLength(0xB),
     Operation::JumpOn(0x87),
     Operation::Jump,
     Operation::JumpOn(0x81),
@@ -172,42 +178,36 @@ const OPERATIONS: [Operation; 75] = [
     Operation::OneAddress(0x5),
     Operation::LoadAddress,
     Operation::OneAddress(0x1),
-    Operation::MoveOf(0x03),
-    Operation::MoveOf(0x02),
-    Operation::Characters(0xC),
+    Operation::HalfBytesOf(0x03),
+    Operation::HalfBytesOf(0x02),
+    Operation::OneLength(0xC),
     Operation::OneAddress(0xC),
-    Operation::Move,
-    Operation::MoveOf(0x01),
-    Operation::MoveOf(0x00),
+    Operation::HalfBytes,
+    Operation::HalfBytesOf(0x01),
+    Operation::HalfBytesOf(0x00),
     Operation::Org,
     Operation::OneAddress(0xB),
     Operation::OneAddress(0xA),
-    Operation::Characters(0xF),
+    Operation::OneLength(0xF),
     Operation::OneAddress(0x0),
     Operation::OneAddress(0x4),
     Operation::Start,
-    Operation::Decimal(0x7),
+    Operation::TwoLengths(0x7),
     Operation::OneAddress(0x9),
     Operation::OneAddress(0x8),
     Operation::Branch(0x1),
     Operation::Using,
-    Operation::Decimal(0x4),
+    Operation::TwoLengths(0x4),
 ];
-
-fn wide(b: u8) -> u64
-    ensures { λ r. ⌜ (r ≡ b) × (r < 256) ⌝ }
-{
-    b as u64
-}
 
 fn number_of(t: [u8; 5]) -> u64
     ensures { λ r. ⌜ r ≡ number5 t ⌝ }
 {
-    let a = wide(t[0]);
-    let b = wide(t[1]);
-    let c = wide(t[2]);
-    let d = wide(t[3]);
-    let e = wide(t[4]);
+    let a = wide64(t[0]);
+    let b = wide64(t[1]);
+    let c = wide64(t[2]);
+    let d = wide64(t[3]);
+    let e = wide64(t[4]);
     (((a * 256 + b) * 256 + c) * 256 + d) * 256 + e
 }
 
@@ -243,7 +243,7 @@ fn row_of(key: u64) -> usize
 fn operation_in(row: usize) -> Operation
     ensures { λ r. ⌜ r ≡ getD sortedOperations row Unknown ⌝ }
 {
-    if 75 <= row {
+    if ROWS <= row {
         return Operation::Unknown;
     }
     let operations = OPERATIONS;

@@ -1,15 +1,14 @@
 -- Laws on the printer's lines: columns, their lengths, and lines written one after the other.
-use Prim.Native.Nat.{ℕ, zero, suc, _+_, _-_, _*_, _/_, _%_, _≤_, _<_}
+use Prim.Native.Nat.{ℕ, suc, _+_, _-_, _*_, _/_, _%_, _≤_, _<_}
 use mathlib.Core.List.{List, [], _∷_, _++_}
 use mathlib.Core.Path.{_≡_, refl, sym, ap, _∙_}
-use mathlib.Core.Bool.{true, false}
 use native.Mathlib.Omega.{arith}
 use lib.ListN.{length, getD, drop, set, length-append, drop-of-length-le}
-use lib.Seq.{sets, length-sets}
+use lib.Seq.{sets}
 use borrow.Author.Tests.{lt-ltb, le-ltb, le-leb, lt-leb, eq-eqb, ne-eqb}
 use Rattle.values.specs.Words.{twoBytes, part}
 use Rattle.values.proofs.Laws.{drop-turn, part-length, then}
-use Rattle.book.specs.Book.{Record}
+use Rattle.book.specs.Book.{Record, restHead}
 use Rattle.book.specs.Reading.{layoutOf, recordsIn}
 use Rattle.book.specs.declared.Entry.{Entry}
 use Rattle.book.specs.declared.Layout.the-variants.{Whole, Broken}
@@ -86,7 +85,7 @@ header-length s h =
     simp (length-append, column-length, part-length s 0 4 (omega arith), part-length s 4 1 (omega arith), part-length s 5 1 (omega arith), part-length s 6 2 (omega arith))
 
 pub head-is : (count size card address : ℕ) → headColumns count size card address
-    ≡ column (twoBytes (5 + count + size)) 32 ++ (column (twoBytes card) 32 ++ (column (twoBytes address) 32 ++ column (count ∷ []) 32))
+    ≡ column (twoBytes (restHead + count + size)) 32 ++ (column (twoBytes card) 32 ++ (column (twoBytes address) 32 ++ column (count ∷ []) 32))
 unfolding headColumns
 head-is count size card address = refl
 

@@ -1,22 +1,20 @@
 -- What the printer writes is never longer than 196,608 bytes: three for each byte of an input that it takes.
-use Prim.Native.Nat.{ℕ, zero, suc, _+_, _*_, _≤_, _<_}
+use Prim.Native.Nat.{ℕ, _+_, _*_, _≤_}
 use mathlib.Core.List.{List, [], _∷_}
-use mathlib.Core.Path.{_≡_, refl, sym, ap, _∙_}
+use mathlib.Core.Path.{_≡_, refl, ap, _∙_}
 use mathlib.Core.Bool.{Bool, true, false}
-use mathlib.Core.Option.{Option, none, some}
+use mathlib.Core.Option.{some}
 use native.Mathlib.Omega.{arith}
 use lib.ListN.{length, length-append}
 use lib.Dec.{ltb, eqb}
 use borrow.Author.Tests.{eqb-true, eqb-false, ltb-true, ltb-false}
-use Rattle.values.specs.Tests.{pick}
 use Rattle.values.proofs.Laws.{part-length}
-use Rattle.book.specs.Book.{Record, recordsFrom, onto, recordOk, restAt, countAt, sizeAt, cardAt, nextAt, recordAt}
+use Rattle.book.specs.Book.{Record, recordHead, recordsFrom, countAt, sizeAt, nextAt, recordAt}
 use Rattle.book.specs.Reading.{layoutOf, recordsIn}
-use Rattle.book.specs.declared.Entry.{Entry}
 use Rattle.book.specs.declared.Layout.{Layout}
 use Rattle.book.specs.declared.Layout.the-variants.{Whole, Broken}
-use Rattle.book.proofs.Laws.{text-length, whole-is}
-use Rattle.book.proofs.Turns.{records-are, long-enough}
+use Rattle.book.proofs.Laws.{Whole as WholeAt, text-length}
+use Rattle.book.proofs.Turns.{by-records, records-are, long-enough}
 use Rattle.print.specs.Print.{headerLine, recordLine, recordLines, printed, offsetsLength}
 use Rattle.print.proofs.Laws.{line-length, lines-first, lines-none, lines-are, header-length, length-none, length-some, is-long, is-broken, is-whole}
 
@@ -29,33 +27,22 @@ offsets-short count = go (eqb count 0) refl
 
 -- the lines of the records from a place on take at most three bytes for each byte from there on
 lines-short : (n : ℕ) (s : List ℕ) (at last : ℕ) (rs : List Record) → recordsFrom n s at last ≡ some rs → length (recordLines rs) + 3 * at ≤ 3 * length s
-unfolding recordsFrom
-lines-short zero s at last rs q = let z : _≡_ {A = ℕ} 0 1 = cc in absurd (omega arith)
-lines-short (suc n) s at last rs q =
-    go (lines-short n s (nextAt s at) (cardAt s at)) (eqb at (length s)) (recordOk s at last) (recordsFrom n s (nextAt s at) (cardAt s at)) refl refl refl q
+lines-short n s = by-records s (λ at last rs. length (recordLines rs) + 3 * at ≤ 3 * length s) end more n
   where
-    go : ((rest : List Record) → recordsFrom n s (nextAt s at) (cardAt s at) ≡ some rest → length (recordLines rest) + 3 * nextAt s at ≤ 3 * length s)
-        → (a b : Bool) (o : Option (List Record)) → eqb at (length s) ≡ a → recordOk s at last ≡ b → recordsFrom n s (nextAt s at) (cardAt s at) ≡ o
-        → pick a (some []) (pick b (onto (recordAt s at) o) none) ≡ some rs → length (recordLines rs) + 3 * at ≤ 3 * length s
-    go others true b o h k r e =
-        let there = eqb-true at (length s) h in
-        let is : [] ≡ rs = cc in
-        let l = ap (λ x. length (recordLines x)) (sym is) ∙ ap length lines-none in
-        omega arith
-    go others false false o h k r e = let z : _≡_ {A = ℕ} 0 1 = cc in absurd (omega arith)
-    go others false true none h k r e = let z : _≡_ {A = ℕ} 0 1 = cc in absurd (omega arith)
-    go others false true (some rest) h k r e =
-        let is : recordAt s at ∷ rest ≡ rs = cc in
-        let w = whole-is s at last k in
+    end : (last : ℕ) → length (recordLines []) + 3 * length s ≤ 3 * length s
+    end last = let l = ap length lines-none in omega arith
+
+    more : (at last : ℕ) (rest : List Record) → WholeAt s at last → length (recordLines rest) + 3 * nextAt s at ≤ 3 * length s
+        → length (recordLines (recordAt s at ∷ rest)) + 3 * at ≤ 3 * length s
+    more at last rest w others =
         let inside = w .rest in
         let counted = w .count in
         let t = text-length s at last inside counted in
-        let c = part-length s (at + 7) (countAt s at) (omega arith) in
+        let c = part-length s (at + recordHead) (countAt s at) (omega arith) in
         let some = w .is .some in
         let line = line-length (recordAt s at) (countAt s at) (sizeAt s at) c t in
         let few = offsets-short (countAt s at) in
-        let more = others rest r in
-        let l = ap (λ x. length (recordLines x)) (sym is) ∙ ap length (lines-first (recordAt s at) rest) ∙ length-append (recordLine (recordAt s at)) (recordLines rest) in
+        let l = ap length (lines-first (recordAt s at) rest) ∙ length-append (recordLine (recordAt s at)) (recordLines rest) in
         omega arith
 
 pub printed-short : (s : List ℕ) → length (printed s) ≤ 196608

@@ -7,7 +7,7 @@ use lib.Dec.{ltb, leb, eqb}
 use lib.Seq.{sets}
 use Rattle.values.specs.Tests.{pick}
 use Rattle.values.specs.Words.{twoBytes, part}
-use Rattle.book.specs.Book.{Record, Book, bookOf}
+use Rattle.book.specs.Book.{Record, Book, restHead, bookOf}
 use Rattle.book.specs.Reading.{recordsIn}
 
 -- 0 to 9 and A to F
@@ -35,7 +35,7 @@ offsets (o ∷ os) = column (o ∷ os) 32
 -- length of the record's rest, card, address, count
 unfoldable pub headColumns : ℕ → ℕ → ℕ → ℕ → List ℕ
 headColumns count size card address =
-    column (twoBytes (5 + count + size)) 32
+    column (twoBytes (restHead + count + size)) 32
     ++ (column (twoBytes card) 32 ++ (column (twoBytes address) 32 ++ column (count ∷ []) 32))
 
 -- these, then offsets or -, then text

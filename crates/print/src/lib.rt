@@ -5,11 +5,12 @@ ghost use Prim.Native.Nat.{_+_, _*_, _≤_, _<_};
 ghost use lib.ListN.{length};
 ghost use lib.Seq.{sets};
 ghost use Rattle.values.specs.Words.{twoBytes};
-ghost use Rattle.book.specs.Reading.{recordOf, recordsIn, Sound, Kept};
+ghost use Rattle.book.specs.Reading.{recordThere, recordsIn, Sound, Kept};
 ghost use Rattle.print.specs.Print.{hexDigit, column, headerLine, offsets, headColumns, recordLine, recordLines, bookLines, printed, whereRoom, offsetsLength, lineLength};
 use book::Cursor;
 use book::Layout;
 use book::Place;
+use book::REST_HEAD;
 use book::Step;
 use book::read_layout;
 use values::words::put_bytes;
@@ -43,7 +44,7 @@ fn put_column(m: &mut [u8], to: usize, bytes: &[u8], end: u8) -> usize
 }
 
 // A number of two bytes in hex, and a blank.
-fn put_number(m: &mut [u8], to: usize, n: u16) -> usize
+fn put_word_column(m: &mut [u8], to: usize, n: u16) -> usize
     requires { ⌜ to + 5 ≤ length (now m) ⌝ }
     ensures { λ r. ⌜ r ≡ to + 5 ⌝ }
     ensures { λ _. ⌜ now (m .exit) ≡ sets (now (m .entry)) to (column (twoBytes n) 32) ⌝ }
@@ -55,7 +56,7 @@ fn put_number(m: &mut [u8], to: usize, n: u16) -> usize
 }
 
 // A number of one byte in hex, and a blank.
-fn put_count(m: &mut [u8], to: usize, n: u8) -> usize
+fn put_byte_column(m: &mut [u8], to: usize, n: u8) -> usize
     requires { ⌜ to + 3 ≤ length (now m) ⌝ }
     ensures { λ r. ⌜ r ≡ to + 3 ⌝ }
     ensures { λ _. ⌜ now (m .exit) ≡ sets (now (m .entry)) to (column (n ∷ []) 32) ⌝ }
@@ -65,7 +66,7 @@ fn put_count(m: &mut [u8], to: usize, n: u8) -> usize
 }
 
 // The first eight bytes of the book, as a line.
-fn put_header(m: &mut [u8], book: &[u8]) -> usize
+fn put_header_line(m: &mut [u8], book: &[u8]) -> usize
     requires { ⌜ (20 ≤ length (now m)) × (8 ≤ length (now book)) ⌝ }
     ensures { λ r. ⌜ r ≡ 20 ⌝ }
     ensures { λ _. ⌜ now (m .exit) ≡ sets (now (m .entry)) 0 (headerLine (now (book .entry))) ⌝ }
@@ -80,7 +81,7 @@ fn put_header(m: &mut [u8], book: &[u8]) -> usize
 fn put_offsets(m: &mut [u8], to: usize, book: &[u8], p: Place) -> usize
     requires { ⌜ Sound (now book) p ⌝ ∗ ⌜ to + offsetsLength (p .count) ≤ length (now m) ⌝ }
     ensures { λ r. ⌜ r ≡ to + offsetsLength (p .count) ⌝ }
-    ensures { λ _. ⌜ now (m .exit) ≡ sets (now (m .entry)) to (offsets (recordOf (now (book .entry)) p .fields)) ⌝ }
+    ensures { λ _. ⌜ now (m .exit) ≡ sets (now (m .entry)) to (offsets (recordThere (now (book .entry)) p .fields)) ⌝ }
 {
     let count = p.count;
     if count == 0 {
@@ -94,23 +95,23 @@ fn put_offsets(m: &mut [u8], to: usize, book: &[u8], p: Place) -> usize
 }
 
 // Length of the record's rest, card, address, count.
-fn put_head(m: &mut [u8], to: usize, p: Place) -> usize
+fn put_head_columns(m: &mut [u8], to: usize, p: Place) -> usize
     requires { ⌜ (p .count ≤ 128) × (p .size ≤ 256) × (to + 18 ≤ length (now m)) ⌝ }
     ensures { λ r. ⌜ r ≡ to + 18 ⌝ }
     ensures { λ _. ⌜ now (m .exit) ≡ sets (now (m .entry)) to (headColumns (p .count) (p .size) (p .card) (p .address .0)) ⌝ }
 {
-    let rest = 5 + p.count + p.size;
-    let card = put_number(m, to, rest as u16);
-    let address = put_number(m, card, p.card);
-    let count = put_number(m, address, p.address.0);
-    put_count(m, count, p.count as u8)
+    let rest = REST_HEAD + p.count + p.size;
+    let card = put_word_column(m, to, rest as u16);
+    let address = put_word_column(m, card, p.card);
+    let count = put_word_column(m, address, p.address.0);
+    put_byte_column(m, count, p.count as u8)
 }
 
 // The text, and the end of the line.
 fn put_text(m: &mut [u8], to: usize, book: &[u8], p: Place) -> usize
     requires { ⌜ Sound (now book) p ⌝ ∗ ⌜ to + (2 * p .size + 1) ≤ length (now m) ⌝ }
     ensures { λ r. ⌜ r ≡ to + (2 * p .size + 1) ⌝ }
-    ensures { λ _. ⌜ now (m .exit) ≡ sets (now (m .entry)) to (column (recordOf (now (book .entry)) p .text) 10) ⌝ }
+    ensures { λ _. ⌜ now (m .exit) ≡ sets (now (m .entry)) to (column (recordThere (now (book .entry)) p .text) 10) ⌝ }
 {
     let from = p.text;
     let end = from + p.size;
@@ -121,9 +122,9 @@ fn put_text(m: &mut [u8], to: usize, book: &[u8], p: Place) -> usize
 fn put_record(m: &mut [u8], to: usize, book: &[u8], p: Place) -> usize
     requires { ⌜ Sound (now book) p ⌝ ∗ ⌜ to + lineLength (p .count) (p .size) ≤ length (now m) ⌝ }
     ensures { λ r. ⌜ r ≡ to + lineLength (p .count) (p .size) ⌝ }
-    ensures { λ _. ⌜ now (m .exit) ≡ sets (now (m .entry)) to (recordLine (recordOf (now (book .entry)) p)) ⌝ }
+    ensures { λ _. ⌜ now (m .exit) ≡ sets (now (m .entry)) to (recordLine (recordThere (now (book .entry)) p)) ⌝ }
 {
-    let offsets = put_head(m, to, p);
+    let offsets = put_head_columns(m, to, p);
     let text = put_offsets(m, offsets, book, p);
     put_text(m, text, book, p)
 }
@@ -150,15 +151,12 @@ fn lines_length(book: &[u8]) -> usize
     let mut cursor = Cursor::first();
     loop {
         match cursor.next(book) {
-            Step::Broken => {
-                return sum;
-            }
-            Step::End => {
-                return sum;
-            }
             Step::Record(p, behind) => {
                 sum += line_length(p);
                 cursor = behind;
+            }
+            _ => {
+                return sum;
             }
         }
     }
@@ -174,15 +172,12 @@ fn put_records(m: &mut [u8], to: usize, book: &[u8])
     let mut cursor = Cursor::first();
     loop {
         match cursor.next(book) {
-            Step::Broken => {
-                return;
-            }
-            Step::End => {
-                return;
-            }
             Step::Record(p, behind) => {
                 at = put_record(m, at, book, p);
                 cursor = behind;
+            }
+            _ => {
+                return;
             }
         }
     }
@@ -196,7 +191,7 @@ fn print_lines(book: &[u8], out: &mut [u8]) -> usize
 {
     let all = 20 + lines_length(book);
     if all <= out.len() {
-        let to = put_header(out, book);
+        let to = put_header_line(out, book);
         put_records(out, to, book);
     }
     all

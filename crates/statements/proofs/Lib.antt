@@ -1,2 +1,3 @@
--- The laws of statements that other crates cite.
-pub mod Fits
+-- The laws of statements that other crates cite, and the cases of their matches.
+pub mod Laws
+mod Cases

@@ -1,5 +1,1 @@
-pub mod Operands
-pub mod Kinds
-pub mod Codes
-pub mod Places
 pub mod Statements

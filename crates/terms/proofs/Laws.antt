@@ -1,18 +1,18 @@
 -- Laws of names and terms.
 use Prim.Native.Nat.{ℕ, zero, suc, _+_, _-_, _*_, _≤_, _<_}
 use mathlib.Core.List.{List}
-use mathlib.Core.Path.{_≡_, refl, sym, ap, _∙_}
+use mathlib.Core.Path.{_≡_, refl}
 use mathlib.Core.Bool.{Bool, true, false}
 use native.Mathlib.Nat.{not-suc-le-zero, mul-le-mul}
 use native.Mathlib.Numerals.{sub-one}
 use native.Mathlib.Omega.{arith}
-use lib.Dec.{ltb, leb, eqb}
+use lib.Dec.{leb}
 use lib.ListN.{length, getD}
 use Rattle.values.specs.Tests.{pick}
 use Rattle.terms.specs.declared.Digits.{Digits}
 use Rattle.letters.specs.Letters.{classOf}
 use Rattle.letters.proofs.Laws.{inside-accepted, name-accepted, start-goes-on}
-use Rattle.terms.specs.Names.{startsAt, goesOnAt, nameEnd}
+use Rattle.terms.specs.Names.{startsAt, goesOnAt}
 use Rattle.terms.specs.Terms.{digitAt, withDigit, digitsFrom}
 
 -- A TURN OF EACH READER
@@ -45,21 +45,6 @@ pub digits-none : (n base : ℕ) (s : List ℕ) (at v : ℕ) → n ≤ 0 → dig
 unfolding digitsFrom
 digits-none zero base s at v h = refl
 digits-none (suc n) base s at v h = absurd (not-suc-le-zero h)
-
-pub end-more : (n : ℕ) (s : List ℕ) (at : ℕ) → 0 < n → goesOnAt s at ≡ true → nameEnd n s at ≡ nameEnd (n - 1) s (at + 1)
-unfolding nameEnd
-end-more zero s at h t = absurd (not-suc-le-zero h)
-end-more (suc n) s at h t = rw (t, sub-one)
-
-pub end-stop : (n : ℕ) (s : List ℕ) (at : ℕ) → goesOnAt s at ≡ false → nameEnd n s at ≡ at
-unfolding nameEnd
-end-stop zero s at t = refl
-end-stop (suc n) s at t = rw t
-
-pub end-none : (n : ℕ) (s : List ℕ) (at : ℕ) → n ≤ 0 → nameEnd n s at ≡ at
-unfolding nameEnd
-end-none zero s at h = refl
-end-none (suc n) s at h = absurd (not-suc-le-zero h)
 
 -- a value of at most 65535 with a digit of a base of at most 16 behind it
 pub appended-fits : (v base : ℕ) → v ≤ 65535 → base ≤ 16 → v * base ≤ 1048560

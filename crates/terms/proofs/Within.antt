@@ -1,7 +1,7 @@
 -- Where a term ends: behind its position and inside the columns; and how large its value and a name's number can be.
 use Prim.Native.Nat.{ℕ, zero, suc, _+_, _-_, _*_, _≤_, _<_}
 use mathlib.Core.List.{List}
-use mathlib.Core.Path.{_≡_, refl, sym, ap, _∙_, subst}
+use mathlib.Core.Path.{_≡_, refl, ap}
 use mathlib.Core.Bool.{Bool, true, false}
 use native.Mathlib.Decide.{decLe}
 use native.Mathlib.Omega.{arith}
@@ -10,21 +10,22 @@ use borrow.Author.Tests.{ltb-true, leb-true, eqb-true, eqb-false, lt-ltb}
 use lib.Dec.{ltb, leb, eqb}
 use lib.ListN.{length, getD}
 use Rattle.values.specs.Tests.{pick}
-use Rattle.letters.specs.Text.{byte, is}
-use Rattle.letters.specs.Letters.{classOf, isAccepted, codeOf, digitOf}
+use Rattle.letters.specs.Text.{stands}
+use Rattle.letters.specs.Letters.{classOf, goesOnName, isAccepted, codeOf, digitOf}
 use Rattle.letters.specs.declared.Class.{Class}
 use Rattle.letters.specs.declared.Class.the-variants.{Letter, Digit, Sign, Blank, Refused}
-use Rattle.letters.proofs.Laws.{inside, inside-accepted, inside-digit, code-below, code-positive, name-accepted, start-goes-on}
+use Rattle.letters.proofs.Laws.{inside, inside-accepted, inside-digit, code-below, code-positive, name-accepted, start-goes-on, class-zero}
 use Rattle.terms.specs.declared.Digits.{Digits}
-use Rattle.terms.specs.declared.naming.Name.{Name}
-use Rattle.terms.specs.declared.naming.Name.the-variants.{Named, NoName}
+use Rattle.terms.specs.declared.naming.NameRead.{NameRead}
+use Rattle.terms.specs.declared.naming.NameRead.the-variants.{Named, NoName}
 use Rattle.terms.specs.declared.Quoted.{Quoted}
 use Rattle.terms.specs.declared.Quoted.the-variants.{One, Closed, Nothing}
 use Rattle.terms.specs.declared.Term.{Term}
 use Rattle.terms.specs.declared.Term.the-variants.{Number, Symbol, Here, Bad}
-use Rattle.terms.specs.Names.{startsAt, goesOnAt, nameEnd, nameByte, nameNumber, nameUpTo, nameAt}
-use Rattle.terms.specs.Terms.{stands, digitAt, withDigit, digitsFrom, decimalOf, decimalAt, closedAt, numeralOf, numeralAt, hexAt, binaryAt, quotedAt, secondOf, firstOf, charactersAt, symbolOf, symbolAt, letteredAt, termOf, termAt}
-use Rattle.terms.proofs.Laws.{end-more, inside-name}
+use Rattle.terms.specs.Names.{startsAt, goesOnAt, nameEnd, nameByte, nameCodes, nameNumber, nameUpTo, nameAt}
+use Rattle.values.proofs.Laws.{Bytes, base256-same, clash}
+use Rattle.letters.proofs.Runs.{run-more, run-bounds, run-inside}
+use Rattle.terms.specs.Terms.{digitAt, withDigit, digitsFrom, decimalOf, decimalAt, closedAt, numeralOf, numeralAt, hexAt, binaryAt, quotedAt, secondOf, firstOf, charactersAt, symbolOf, symbolAt, letteredAt, termOf, termAt}
 
 -- a place from a position on, inside the columns where the position is
 abbrev pub Stops : List ℕ → ℕ → ℕ → Type 0
@@ -38,7 +39,7 @@ Within s at (Here next) = (at < next) × (next ≤ length s)
 Within s at (Bad place) = Stops s at place
 
 -- .. of a name
-abbrev pub NameWithin : List ℕ → ℕ → Name → Type 0
+abbrev pub NameWithin : List ℕ → ℕ → NameRead → Type 0
 NameWithin s at (Named n next) = (at < next) × (next ≤ length s) × (n < 281474976710656)
 NameWithin s at (NoName place) = Stops s at place
 
@@ -54,18 +55,8 @@ stands-inside k s at p e = inside s at (λ z. omega (arith, eqb-true (getD s at 
 
 -- NAMES
 
-end-within : (n : ℕ) (s : List ℕ) (at : ℕ) → (at ≤ nameEnd n s at) × (nameEnd n s at ≤ at + n) × (at < nameEnd n s at → nameEnd n s at ≤ length s)
-unfolding nameEnd
-end-within zero s at = (omega arith, omega arith, λ h. absurd (omega arith))
-end-within (suc n) s at = go (goesOnAt s at) refl (end-within n s (at + 1))
-  where
-    go : (x : Bool) → goesOnAt s at ≡ x → (at + 1 ≤ nameEnd n s (at + 1)) × (nameEnd n s (at + 1) ≤ at + 1 + n) × (at + 1 < nameEnd n s (at + 1) → nameEnd n s (at + 1) ≤ length s)
-        → (at ≤ pick x (nameEnd n s (at + 1)) at) × (pick x (nameEnd n s (at + 1)) at ≤ at + suc n) × (at < pick x (nameEnd n s (at + 1)) at → pick x (nameEnd n s (at + 1)) at ≤ length s)
-    go true e ih = (omega arith, omega arith, λ h. last (nameEnd n s (at + 1)) (ih .0) (ih .2) (inside-name s at e))
-      where
-        last : (m : ℕ) → at + 1 ≤ m → (at + 1 < m → m ≤ length s) → at < length s → m ≤ length s
-        last m l f i = elim (decLe m (at + 1)) [ yes small ↦ omega arith | no large ↦ f (omega arith) ]
-    go false e ih = (omega arith, omega arith, λ h. absurd (omega arith))
+goes-on-zero : goesOnName (classOf 0) ≡ false
+goes-on-zero = ap goesOnName class-zero
 
 name-byte-below : (s : List ℕ) (at end k : ℕ) → nameByte s at end k < 256
 unfolding nameByte
@@ -90,47 +81,25 @@ number-positive : (s : List ℕ) (at end : ℕ) → 0 < nameByte s at end 0 → 
 unfolding nameNumber
 number-positive s at end h = omega arith
 
+codes-below : (s : List ℕ) (at end : ℕ) → Bytes (nameCodes s at end)
+codes-below s at end zero = name-byte-below s at end 0
+codes-below s at end (suc zero) = name-byte-below s at end 1
+codes-below s at end (suc (suc zero)) = name-byte-below s at end 2
+codes-below s at end (suc (suc (suc zero))) = name-byte-below s at end 3
+codes-below s at end (suc (suc (suc (suc zero)))) = name-byte-below s at end 4
+codes-below s at end (suc (suc (suc (suc (suc zero))))) = name-byte-below s at end 5
+codes-below s at end (suc (suc (suc (suc (suc (suc k)))))) = omega arith
+
 -- names with one number have the same six codes: no character is left out
-pub same-codes : (s : List ℕ) (at end : ℕ) (t : List ℕ) (from to : ℕ) → nameNumber s at end ≡ nameNumber t from to
-    → (k : ℕ) → k < 6 → nameByte s at end k ≡ nameByte t from to k
+pub same-codes : (s : List ℕ) (at end : ℕ) (t : List ℕ) (from to : ℕ) → nameNumber s at end ≡ nameNumber t from to → nameCodes s at end ≡ nameCodes t from to
 unfolding nameNumber
-same-codes s at end t from to e =
-    at-place
-    (name-byte-below s at end 0)
-    (name-byte-below s at end 1)
-    (name-byte-below s at end 2)
-    (name-byte-below s at end 3)
-    (name-byte-below s at end 4)
-    (name-byte-below s at end 5)
-    (name-byte-below t from to 0)
-    (name-byte-below t from to 1)
-    (name-byte-below t from to 2)
-    (name-byte-below t from to 3)
-    (name-byte-below t from to 4)
-    (name-byte-below t from to 5)
-  where
-    x : ℕ → ℕ
-    x k = nameByte s at end k
-
-    y : ℕ → ℕ
-    y k = nameByte t from to k
-
-    at-place : x 0 < 256 → x 1 < 256 → x 2 < 256 → x 3 < 256 → x 4 < 256 → x 5 < 256
-        → y 0 < 256 → y 1 < 256 → y 2 < 256 → y 3 < 256 → y 4 < 256 → y 5 < 256
-        → (k : ℕ) → k < 6 → x k ≡ y k
-    at-place a0 a1 a2 a3 a4 a5 b0 b1 b2 b3 b4 b5 zero h = omega arith
-    at-place a0 a1 a2 a3 a4 a5 b0 b1 b2 b3 b4 b5 (suc zero) h = omega arith
-    at-place a0 a1 a2 a3 a4 a5 b0 b1 b2 b3 b4 b5 (suc (suc zero)) h = omega arith
-    at-place a0 a1 a2 a3 a4 a5 b0 b1 b2 b3 b4 b5 (suc (suc (suc zero))) h = omega arith
-    at-place a0 a1 a2 a3 a4 a5 b0 b1 b2 b3 b4 b5 (suc (suc (suc (suc zero)))) h = omega arith
-    at-place a0 a1 a2 a3 a4 a5 b0 b1 b2 b3 b4 b5 (suc (suc (suc (suc (suc zero))))) h = omega arith
-    at-place a0 a1 a2 a3 a4 a5 b0 b1 b2 b3 b4 b5 (suc (suc (suc (suc (suc (suc k)))))) h = absurd (omega arith)
+same-codes s at end t from to e = base256-same (nameCodes s at end) (nameCodes t from to) refl (codes-below s at end) (codes-below t from to) e
 
 -- a name that starts has an end behind its start
 end-behind : (s : List ℕ) (at : ℕ) → startsAt s at ≡ true → at < nameEnd 6 s at
 end-behind s at e =
-    let more : nameEnd 6 s at ≡ nameEnd 5 s (at + 1) = end-more 6 s at (omega arith) (start-goes-on (classOf (getD s at 0)) e) in
-    omega (arith, end-within 5 s (at + 1) .0)
+    let more : nameEnd 6 s at ≡ nameEnd 5 s (at + 1) = run-more (λ b. goesOnName (classOf b)) 6 s at (omega arith) (start-goes-on (classOf (getD s at 0)) e) in
+    omega (arith, run-bounds (λ b. goesOnName (classOf b)) 5 s (at + 1) .0)
 
 pub name-within : (s : List ℕ) (at : ℕ) → NameWithin s at (nameAt s at)
 unfolding nameAt
@@ -141,7 +110,7 @@ name-within s at = go (startsAt s at) refl
     up false end h l = (h, l, number-below s at end)
 
     go : (x : Bool) → startsAt s at ≡ x → NameWithin s at (pick x (nameUpTo s at (nameEnd 6 s at)) (NoName at))
-    go true e = up (goesOnAt s (nameEnd 6 s at)) (nameEnd 6 s at) (end-behind s at e) (end-within 6 s at .2 (end-behind s at e))
+    go true e = up (goesOnAt s (nameEnd 6 s at)) (nameEnd 6 s at) (end-behind s at e) (run-inside (λ b. goesOnName (classOf b)) goes-on-zero 6 s at (end-behind s at e))
     go false e = (omega arith, λ l. l)
 
 -- no name has the number 0, which says that there is none
@@ -153,7 +122,7 @@ name-positive s at n next e = go (startsAt s at) refl e
     first h a = rw (add-zero, lt-ltb at (nameEnd 6 s at) h) (code-positive (getD s at 0) a)
 
     up : (x : Bool) (end : ℕ) → 0 < nameByte s at end 0 → pick x (NoName end) (Named (nameNumber s at end) end) ≡ Named n next → 0 < n
-    up true end h q = let z : _≡_ {A = ℕ} 0 1 = cc in absurd (omega arith)
+    up true end h q = clash (cc)
     up false end h q = let f : n ≡ nameNumber s at end = cc in rw f (number-positive s at end h)
 
     go : (x : Bool) → startsAt s at ≡ x → pick x (nameUpTo s at (nameEnd 6 s at)) (NoName at) ≡ Named n next → 0 < n
@@ -161,7 +130,7 @@ name-positive s at n next e = go (startsAt s at) refl e
         up (goesOnAt s (nameEnd 6 s at)) (nameEnd 6 s at)
         (first (end-behind s at f) (name-accepted (classOf (getD s at 0)) (start-goes-on (classOf (getD s at 0)) f)))
         q
-    go false f q = let z : _≡_ {A = ℕ} 0 1 = cc in absurd (omega arith)
+    go false f q = clash (cc)
 
 -- NUMBERS
 
@@ -258,7 +227,7 @@ symbol-within : (s : List ℕ) (at : ℕ) → Within s at (symbolAt s at)
 unfolding symbolAt
 symbol-within s at = go (nameAt s at) (name-within s at)
   where
-    go : (n : Name) → NameWithin s at n → Within s at (symbolOf n)
+    go : (n : NameRead) → NameWithin s at n → Within s at (symbolOf n)
     go (Named n next) w = w
     go (NoName place) w = w
 

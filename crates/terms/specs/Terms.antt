@@ -8,20 +8,16 @@ use lib.Dec.{ltb, leb, eqb}
 use Rattle.values.specs.Tests.{pick}
 use Rattle.letters.specs.declared.Class.{Class}
 use Rattle.letters.specs.declared.Class.the-variants.{Letter, Digit, Sign, Blank, Refused}
-use Rattle.letters.specs.Text.{is}
+use Rattle.letters.specs.Text.{is, stands}
 use Rattle.letters.specs.Letters.{classOf, isAccepted, codeOf, digitOf}
 use Rattle.terms.specs.Names.{nameAt}
 use Rattle.terms.specs.declared.Digits.{Digits}
 use Rattle.terms.specs.declared.Quoted.{Quoted}
 use Rattle.terms.specs.declared.Quoted.the-variants.{One, Closed, Nothing}
-use Rattle.terms.specs.declared.naming.Name.{Name}
-use Rattle.terms.specs.declared.naming.Name.the-variants.{Named, NoName}
+use Rattle.terms.specs.declared.naming.NameRead.{NameRead}
+use Rattle.terms.specs.declared.naming.NameRead.the-variants.{Named, NoName}
 use Rattle.terms.specs.declared.Term.{Term}
 use Rattle.terms.specs.declared.Term.the-variants.{Number, Symbol, Here, Bad}
-
--- a character stands at a position
-abbrev pub stands : Char → List ℕ → ℕ → Bool
-stands c s at = is c (getD s at 0)
 
 -- a digit of a base stands at a position
 abbrev pub digitAt : ℕ → List ℕ → ℕ → Bool
@@ -91,7 +87,7 @@ unfoldable pub charactersAt : List ℕ → ℕ → Term
 charactersAt s at = firstOf s (quotedAt s (at + 2))
 
 -- "A symbol"
-abbrev pub symbolOf : Name → Term
+abbrev pub symbolOf : NameRead → Term
 symbolOf (Named number next) = Symbol number next
 symbolOf (NoName at) = Bad at
 

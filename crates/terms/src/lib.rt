@@ -3,7 +3,7 @@ pub mod naming;
 
 use letters::Class;
 use letters::byte_at;
-use naming::Name;
+use naming::NameRead;
 ghost use mathlib.Core.Path.{_≡_};
 ghost use Prim.Native.Nat.{_+_, _*_, _^_, _≤_, _<_};
 ghost use Rattle.terms.specs.Terms.{digitsFrom, decimalAt, closedAt, numeralAt, hexAt, binaryAt, quotedAt, secondOf, charactersAt, symbolAt, letteredAt, termAt};
@@ -169,8 +169,8 @@ fn read_symbol(s: &[u8], at: usize) -> Term
     ensures { λ r. ⌜ r ≡ symbolAt (now (s .entry)) at ⌝ }
 {
     match naming::read_name(s, at) {
-        Name::Named(number, next) => Term::Symbol(number, next),
-        Name::NoName(end) => Term::Bad(end),
+        NameRead::Named(number, next) => Term::Symbol(number, next),
+        NameRead::NoName(end) => Term::Bad(end),
     }
 }
 

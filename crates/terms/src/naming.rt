@@ -1,13 +1,15 @@
 // A name of 1 to 6 characters at a position, and its number.
+use letters::BLANK_CODE;
 use letters::byte_at;
 use letters::class_at;
+use values::words::wide64;
 ghost use mathlib.Core.Path.{_≡_};
 ghost use Prim.Native.Nat.{_+_, _^_, _≤_, _<_};
 ghost use lib.ListN.{length};
 ghost use Rattle.terms.specs.Names.{nameEnd, nameByte, nameNumber, nameAt};
 
 // A name's number and the position behind it; or the first position at which no name could go on.
-pub enum Name {
+pub enum NameRead {
     Named(u64, usize),
     NoName(usize),
 }
@@ -28,20 +30,14 @@ fn name_end(s: &[u8], at: usize) -> usize
     i
 }
 
-fn wide(b: u8) -> u64
-    ensures { λ r. ⌜ (r ≡ b) × (r < 256) ⌝ }
-{
-    b as u64
-}
-
 fn name_byte(s: &[u8], at: usize, end: usize, k: usize) -> u64
     requires { ⌜ (at + k < 2 ^ 64) ⌝ }
     ensures { λ r. ⌜ (r ≡ nameByte (now (s .entry)) at end k) × (r < 256) ⌝ }
 {
     if at + k < end {
-        wide(letters::code_of(byte_at(s, at + k)))
+        wide64(letters::code_of(byte_at(s, at + k)))
     } else {
-        0x40
+        wide64(BLANK_CODE)
     }
 }
 
@@ -58,15 +54,15 @@ fn name_number(s: &[u8], at: usize, end: usize) -> u64
     ((((a * 256 + b) * 256 + c) * 256 + d) * 256 + e) * 256 + f
 }
 
-pub fn read_name(s: &[u8], at: usize) -> Name
+pub fn read_name(s: &[u8], at: usize) -> NameRead
     ensures { λ r. ⌜ r ≡ nameAt (now (s .entry)) at ⌝ }
 {
     if !letters::starts_name(class_at(s, at)) {
-        return Name::NoName(at);
+        return NameRead::NoName(at);
     }
     let end = name_end(s, at);
     if letters::goes_on_name(class_at(s, end)) {
-        return Name::NoName(end);
+        return NameRead::NoName(end);
     }
-    Name::Named(name_number(s, at, end), end)
+    NameRead::Named(name_number(s, at, end), end)
 }

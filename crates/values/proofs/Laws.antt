@@ -10,7 +10,11 @@ use native.Mathlib.Omega.{arith}
 use lib.ListN.{length, getD, take, drop, set, length-append, length-take, length-drop, length-set, drop-of-length-le}
 use lib.Seq.{drop-cons, sets, length-sets, sets-eq, getD-take, getD-drop, getD-append-add, drop-append-add, set-append-left, length-take-le}
 use Rattle.values.specs.Tests.{pick, both, either}
-use Rattle.values.specs.Words.{word, long, twoBytes, fourBytes, part}
+use Rattle.values.specs.Words.{word, long, base256, base256On, twoBytes, fourBytes, part}
+
+-- two cases of an enum are never equal: where `cc` finds that they are, anything follows by `clash (cc)`
+pub clash {ℓ} : {X : Type ℓ} → _≡_ {A = ℕ} 0 1 → X
+clash e = absurd (omega arith)
 
 -- TESTS
 
@@ -20,14 +24,17 @@ both-false false = refl
 
 pub both-true : (a b : Bool) → both a b ≡ true → (a ≡ true) × (b ≡ true)
 both-true true b e = (refl, e)
-both-true false b e = let z : _≡_ {A = ℕ} 0 1 = cc in absurd (omega arith)
+both-true false b e = clash (cc)
 
 -- a test that fails whenever b < a: where it passes, a ≤ b
 pub held : {r : Bool} (a b : ℕ) → (b < a → r ≡ false) → r ≡ true → a ≤ b
 held a b n e =
-    elim (decLe a b) [ yes h ↦ h | no h ↦ let q = n (lt-of-not-le h) in let z : _≡_ {A = ℕ} 0 1 = cc in omega arith ]
+    elim (decLe a b) [ yes h ↦ h | no h ↦ let q = n (lt-of-not-le h) in clash (cc) ]
 
 -- WORDS
+
+abbrev pub Bytes : List ℕ → Type 0
+Bytes a = (k : ℕ) → getD a k 0 < 256
 
 pub word-shift : (xs ys : List ℕ) (n : ℕ) → word (xs ++ ys) (length xs + n) ≡ word ys n
 unfolding word
@@ -75,6 +82,23 @@ word-part s from n i h =
 -- behind the first list a part is one of the second
 pub part-shift : (xs ys : List ℕ) (from n : ℕ) → part (xs ++ ys) (length xs + from) n ≡ part ys from n
 part-shift xs ys from n = rw (drop-append-add xs ys from)
+
+-- equally many bytes that make the same number are the same
+base256-same-on : (m n : ℕ) (a b : List ℕ) → length a ≡ length b → Bytes a → Bytes b → base256On m a ≡ base256On n b → (m ≡ n) × (a ≡ b)
+base256-same-on m n [] [] l s t e = (e, refl)
+base256-same-on m n (x ∷ a) [] l s t e = absurd (omega arith)
+base256-same-on m n [] (y ∷ b) l s t e = absurd (omega arith)
+base256-same-on m n (x ∷ a) (y ∷ b) l s t e =
+    let (h, same) = base256-same-on (m * 256 + x) (n * 256 + y) a b (omega arith) (λ k. s (suc k)) (λ k. t (suc k)) e in
+    let first : x ≡ y = omega (arith, s 0, t 0) in
+    (omega (arith, s 0, t 0), cc)
+
+pub base256-same : (a b : List ℕ) → length a ≡ length b → Bytes a → Bytes b → base256 a ≡ base256 b → a ≡ b
+base256-same [] [] l s t e = refl
+base256-same (x ∷ a) [] l s t e = absurd (omega arith)
+base256-same [] (y ∷ b) l s t e = absurd (omega arith)
+base256-same (x ∷ a) (y ∷ b) l s t e =
+    let (first, same) = base256-same-on x y a b (omega arith) (λ k. s (suc k)) (λ k. t (suc k)) e in cc
 
 -- a number of four bytes is given back
 pub long-four : (n : ℕ) (s : List ℕ) → n < 4294967296 → long (fourBytes n ++ s) 0 ≡ n

@@ -3,7 +3,7 @@ pub mod numbers;
 pub mod words;
 
 ghost use mathlib.Core.Path.{_≡_};
-ghost use Rattle.values.specs.Values.{movedBy};
+ghost use Rattle.values.specs.Values.{amountOf, absoluteOf, relocatableOf, onlyAbsolute, onlyRelocatable, movedBy};
 
 // A value that stays what it is wherever the program is loaded.
 pub struct Absolute(pub u16);
@@ -17,6 +17,77 @@ pub struct Displacement(u16);
 pub enum Value {
     Absolute(Absolute),
     Relocatable(Relocatable),
+}
+
+// The kind that a place asks of an expression.
+pub enum Wanted {
+    Any,
+    OnlyAbsolute,
+    OnlyRelocatable,
+}
+
+// A value where there is one.
+pub enum MaybeValue {
+    Is(Value),
+    Nothing,
+}
+
+pub enum MaybeAbsolute {
+    Is(Absolute),
+    Nothing,
+}
+
+pub enum MaybeRelocatable {
+    Is(Relocatable),
+    Nothing,
+}
+
+// A value without its kind.
+pub fn amount_of(v: Value) -> u16
+    ensures { λ r. ⌜ r ≡ amountOf v ⌝ }
+{
+    match v {
+        Value::Absolute(a) => a.0,
+        Value::Relocatable(a) => a.0,
+    }
+}
+
+fn absolute_of(v: Value) -> MaybeAbsolute
+    ensures { λ r. ⌜ r ≡ absoluteOf v ⌝ }
+{
+    match v {
+        Value::Absolute(a) => MaybeAbsolute::Is(a),
+        Value::Relocatable(_) => MaybeAbsolute::Nothing,
+    }
+}
+
+fn relocatable_of(v: Value) -> MaybeRelocatable
+    ensures { λ r. ⌜ r ≡ relocatableOf v ⌝ }
+{
+    match v {
+        Value::Absolute(_) => MaybeRelocatable::Nothing,
+        Value::Relocatable(a) => MaybeRelocatable::Is(a),
+    }
+}
+
+// The value if it is absolute.
+pub fn only_absolute(v: MaybeValue) -> MaybeAbsolute
+    ensures { λ r. ⌜ r ≡ onlyAbsolute v ⌝ }
+{
+    match v {
+        MaybeValue::Is(v) => absolute_of(v),
+        MaybeValue::Nothing => MaybeAbsolute::Nothing,
+    }
+}
+
+// The value if it is relocatable.
+pub fn only_relocatable(v: MaybeValue) -> MaybeRelocatable
+    ensures { λ r. ⌜ r ≡ onlyRelocatable v ⌝ }
+{
+    match v {
+        MaybeValue::Is(v) => relocatable_of(v),
+        MaybeValue::Nothing => MaybeRelocatable::Nothing,
+    }
 }
 
 // A relocatable value moved by a displacement, or that the sum is over 65535.

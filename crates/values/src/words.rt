@@ -11,6 +11,12 @@ pub fn wide(b: u8) -> usize
     b as usize
 }
 
+pub fn wide64(b: u8) -> u64
+    ensures { λ r. ⌜ (r ≡ b) × (r < 256) ⌝ }
+{
+    b as u64
+}
+
 pub fn wide16(w: u16) -> usize
     ensures { λ r. ⌜ (r ≡ w) × (r < 65536) ⌝ }
 {

@@ -1,4 +1,5 @@
 # Help, misuse and the numbers.
+# shellcheck shell=bash disable=SC2034,SC2154 # tests/command/cases has the names
 
 try 2
 told 'mersclund assemble DECK [-o BOOK] [--width 80|96]'

@@ -1,4 +1,5 @@
 # Decks of every shape, good and bad.
+# shellcheck shell=bash disable=SC2034,SC2154 # tests/command/cases has the names
 
 cp "$root/examples/ledger" ledger
 try 0 assemble ledger

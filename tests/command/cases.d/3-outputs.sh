@@ -1,4 +1,5 @@
 # Where a book goes, and what becomes of a file that is already there.
+# shellcheck shell=bash disable=SC2034,SC2154 # tests/command/cases has the names
 
 echo old >kept
 try 1 assemble "$root/examples/mistyped" -o kept

@@ -1,4 +1,5 @@
 # Loading.
+# shellcheck shell=bash disable=SC2034,SC2154 # tests/command/cases has the names
 
 try 0 load ledger.book --at 0 -o here
 said 'ledger.book: loaded at 0000: 69 bytes stored, entry 0100'

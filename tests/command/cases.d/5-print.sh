@@ -1,4 +1,5 @@
 # Printing: the lines of the book printer, or a refusal and nothing else.
+# shellcheck shell=bash disable=SC2034,SC2154 # tests/command/cases has the names
 
 for input in "$root"/tests/printer/*.in; do
     wanted=${input%.in}.out

@@ -1,4 +1,5 @@
 # Every example gives the printed book that is stored, or the refusal that it shows.
+# shellcheck shell=bash disable=SC2034,SC2154 # tests/command/cases has the names
 
 for example in "$root"/examples/*; do
     stored=$tests/printed/${example##*/}

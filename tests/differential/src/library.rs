@@ -5,6 +5,7 @@ use crate::decks::Made;
 use crate::random::Random;
 use model::assemble::{assemble_into, Assembled};
 use model::book::ADDRESSES;
+use model::packed::packed_assembly;
 use model::print::print;
 use model::Refusal;
 use std::io;
@@ -55,7 +56,7 @@ impl Library {
         let lengths = [source.len(), work.len(), out.len()];
         let library = answer(packed, buffer(&lent, lengths, 2));
         let wrong = wrong_byte(&lent, [source, &work, &out], BUFFERS);
-        let same = packed == self::packed(&model) && wrong.is_none();
+        let same = packed == packed_assembly(&model) && wrong.is_none();
         let difference = (!same).then(|| {
             let wrong = wrong.map_or(String::new(), |place| format!("  wrong: {place}\n"));
             format!("  model:   {}  library: {packed:016X} {}{wrong}", said(&model), said(&library))
@@ -69,14 +70,6 @@ impl Library {
         let buffers = [book, storage, &[]];
         let (_, lent) = self.caller.call(Call::Load, u32::from(displacement), buffers)?;
         Ok(buffer(&lent, [book.len(), ADDRESSES, 0], 1).to_vec())
-    }
-}
-
-/// The one number that the C interface answers.
-fn packed(answer: &Answer) -> u64 {
-    match answer {
-        Err(Refusal { number, card }) => u64::from(*number) << 56 | u64::from(*card),
-        Ok(Assembled { book, names }) => u64::from(*names) << 32 | book.len() as u64,
     }
 }
 

@@ -7,6 +7,7 @@ use crate::random::Random;
 use crate::tally::Tally;
 use model::book::{Book, ADDRESSES};
 use model::load::{load, sum_over, Loaded};
+use model::packed::packed_load;
 use model::Refusal;
 use std::io;
 
@@ -52,17 +53,6 @@ pub fn run(program: &Program, seed: u64, count: u64) -> io::Result<bool> {
     Ok(tally.report() & caller.stop()?)
 }
 
-/// The one number that the C interface answers.
-fn packed(answer: Result<Loaded, Refusal>) -> u64 {
-    match answer {
-        Err(Refusal { number, card }) => u64::from(number) << 56 | u64::from(card),
-        Ok(Loaded { stored, entry: None }) => u64::from(stored),
-        Ok(Loaded { stored, entry: Some(entry) }) => {
-            1 << 48 | u64::from(entry) << 32 | u64::from(stored)
-        }
-    }
-}
-
 /// Says in what the library's answer or a lent byte differs from the model's.
 fn difference(
     made: &Made,
@@ -70,7 +60,8 @@ fn difference(
     wanted: &[u8],
     got: io::Result<(u64, Vec<u8>)>,
 ) -> Option<String> {
-    let model = format!("model {answer:?} {:016X}", packed(answer));
+    let packed = packed_load(&answer);
+    let model = format!("model {answer:?} {packed:016X}");
     let (got, bytes) = match got {
         Err(error) => return Some(format!("{model}, the caller failed: {error}")),
         Ok(got) => got,
@@ -79,7 +70,7 @@ fn difference(
     let buffers = [&made.book[..], wanted, &[]];
     match wrong_byte(&bytes, buffers, ["book", "storage", "end"]) {
         Some(place) => Some(format!("{answers}, wrong: {place}")),
-        None => (got != packed(answer)).then_some(answers),
+        None => (got != packed).then_some(answers),
     }
 }
 

@@ -14,6 +14,7 @@ pub mod load;
 mod names;
 mod operands;
 pub mod operations;
+pub mod packed;
 mod pass_one;
 mod pass_two;
 pub mod print;

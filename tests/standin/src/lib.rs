@@ -1,14 +1,10 @@
 //! The model behind the C interface: stands in for the proved library where that can't be
 //! linked, since it is for x86-64 alone. Tests use it; nothing else does.
 
-use model::assemble::{assemble_into, Assembled};
-use model::load::{load, Loaded};
-use model::Refusal;
+use model::assemble::assemble_into;
+use model::load::load;
+use model::packed::{packed_assembly, packed_load};
 use std::slice;
-
-fn refused(refusal: Refusal) -> u64 {
-    u64::from(refusal.number) << 56 | u64::from(refusal.card)
-}
 
 /// # Safety
 /// The buffers are as the header asks: no null pointer, no overlap.
@@ -25,10 +21,7 @@ pub unsafe extern "C" fn mersclund_assemble(
     let source = slice::from_raw_parts(source, source_len);
     let work = slice::from_raw_parts_mut(work, work_len);
     let out = slice::from_raw_parts_mut(out, out_len);
-    match assemble_into(width, source, work, out) {
-        Err(refusal) => refused(refusal),
-        Ok(Assembled { book, names }) => u64::from(names) << 32 | book.len() as u64,
-    }
+    packed_assembly(&assemble_into(width, source, work, out))
 }
 
 /// # Safety
@@ -43,11 +36,5 @@ pub unsafe extern "C" fn mersclund_load(
 ) -> u64 {
     let book = slice::from_raw_parts(book, book_len);
     let storage = slice::from_raw_parts_mut(storage, storage_len);
-    match load(book, displacement, storage) {
-        Err(refusal) => refused(refusal),
-        Ok(Loaded { stored, entry: None }) => u64::from(stored),
-        Ok(Loaded { stored, entry: Some(entry) }) => {
-            1 << 48 | u64::from(entry) << 32 | u64::from(stored)
-        }
-    }
+    packed_load(&load(book, displacement, storage))
 }

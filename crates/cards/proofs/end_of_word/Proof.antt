@@ -1,11 +1,12 @@
 -- `end_of_word` meets its contract. The invariant: the word's end from here is its end from the start.
 use native.Mathlib.Omega.{arith}
-use mathlib.Core.Path.{_≡_, refl, sym, _∙_}
+use mathlib.Core.Path.{_≡_, refl, sym, ap, _∙_}
+use mathlib.Core.Bool.{not}
 use Prim.Native.Nat.{_-_, _≤_}
 use borrow.Author.Needs.{needs}
 use lib.ListN.{length}
-use Rattle.cards.specs.Fields.{wordEnd}
-use Rattle.cards.proofs.Laws.{word-more, word-stop, word-none}
+use Rattle.cards.specs.Fields.{isBlankByte, wordEnd}
+use Rattle.cards.proofs.Laws.{columns-more, columns-stop, columns-none}
 use Rattle.cards.proofs.end_of_word.Statement.{statement}
 use Rattle.cards.proofs.end_of_word.Tie as tie
 
@@ -22,7 +23,7 @@ blank-at-requires : tie.Need-blank-at-requires Inv-loop μ-loop
 blank-at-requires c κs = search needs
 
 returns : tie.Need-returns Inv-loop μ-loop
-returns c = (sym (word-stop (c .before .before .before .before .before .args .s .now) (c .before .before .before .loop .i) (c .before .before .loop-test .taken) (sym (c .before .blank-at .ensures) ∙ c .if1 .taken)) ∙ c .before .before .before .loop .inv .0, omega arith, omega arith)
+returns c = (sym (columns-stop (c .before .before .before .before .before .args .s .now) (c .before .before .before .loop .i) (λ b. not (isBlankByte b)) (ap not (sym (c .before .blank-at .ensures) ∙ c .if1 .taken))) ∙ c .before .before .before .loop .inv .0, omega arith, omega arith)
 
 add-i : tie.Need-add-i Inv-loop μ-loop
 add-i c = omega arith
@@ -31,10 +32,10 @@ loop-less : tie.Need-loop-less Inv-loop μ-loop
 loop-less c = omega arith
 
 loop-again : tie.Need-loop-again Inv-loop μ-loop
-loop-again c = (sym (word-more (c .before .before .before .before .before .args .s .now) (c .before .before .before .loop .i) (c .before .before .loop-test .taken) (sym (c .before .blank-at .ensures) ∙ c .if1 .left)) ∙ c .before .before .before .loop .inv .0, omega arith, omega arith)
+loop-again c = (sym (columns-more (c .before .before .before .before .before .args .s .now) (c .before .before .before .loop .i) (λ b. not (isBlankByte b)) (c .before .before .loop-test .taken) (ap not (sym (c .before .blank-at .ensures) ∙ c .if1 .left))) ∙ c .before .before .before .loop .inv .0, omega arith, omega arith)
 
 returns-2 : tie.Need-returns-2 Inv-loop μ-loop
-returns-2 c = (sym (word-none (c .before .before .before .args .s .now) (c .before .loop .i) (c .loop-test .left)) ∙ c .before .loop .inv .0, omega arith, omega arith)
+returns-2 c = (sym (columns-none (c .before .before .before .args .s .now) (c .before .loop .i) (λ b. not (isBlankByte b)) (c .loop-test .left)) ∙ c .before .loop .inv .0, omega arith, omega arith)
 
 pub end-of-word-spec : {M : Type 1} → statement M
 end-of-word-spec =

@@ -5,8 +5,8 @@ use borrow.Author.Tests.{not-true, not-false}
 use Prim.Native.Nat.{_-_, _≤_}
 use borrow.Author.Needs.{needs}
 use lib.ListN.{length}
-use Rattle.cards.specs.Fields.{blanksEnd}
-use Rattle.cards.proofs.Laws.{blanks-more, blanks-stop, blanks-none}
+use Rattle.cards.specs.Fields.{isBlankByte, blanksEnd}
+use Rattle.cards.proofs.Laws.{columns-more, columns-stop, columns-none}
 use Rattle.cards.proofs.next_word.Statement.{statement}
 use Rattle.cards.proofs.next_word.Tie as tie
 
@@ -23,7 +23,7 @@ blank-at-requires : tie.Need-blank-at-requires Inv-loop μ-loop
 blank-at-requires c κs = search needs
 
 returns : tie.Need-returns Inv-loop μ-loop
-returns c = (sym (blanks-stop (c .before .before .before .before .before .args .s .now) (c .before .before .before .loop .i) (c .before .before .loop-test .taken) (sym (c .before .blank-at .ensures) ∙ not-true _ (c .if1 .taken))) ∙ c .before .before .before .loop .inv .0, omega arith, omega arith)
+returns c = (sym (columns-stop (c .before .before .before .before .before .args .s .now) (c .before .before .before .loop .i) isBlankByte (sym (c .before .blank-at .ensures) ∙ not-true _ (c .if1 .taken))) ∙ c .before .before .before .loop .inv .0, omega arith, omega arith)
 
 add-i : tie.Need-add-i Inv-loop μ-loop
 add-i c = omega arith
@@ -32,10 +32,10 @@ loop-less : tie.Need-loop-less Inv-loop μ-loop
 loop-less c = omega arith
 
 loop-again : tie.Need-loop-again Inv-loop μ-loop
-loop-again c = (sym (blanks-more (c .before .before .before .before .before .args .s .now) (c .before .before .before .loop .i) (c .before .before .loop-test .taken) (sym (c .before .blank-at .ensures) ∙ not-false _ (c .if1 .left))) ∙ c .before .before .before .loop .inv .0, omega arith, omega arith)
+loop-again c = (sym (columns-more (c .before .before .before .before .before .args .s .now) (c .before .before .before .loop .i) isBlankByte (c .before .before .loop-test .taken) (sym (c .before .blank-at .ensures) ∙ not-false _ (c .if1 .left))) ∙ c .before .before .before .loop .inv .0, omega arith, omega arith)
 
 returns-2 : tie.Need-returns-2 Inv-loop μ-loop
-returns-2 c = (sym (blanks-none (c .before .before .before .args .s .now) (c .before .loop .i) (c .loop-test .left)) ∙ c .before .loop .inv .0, omega arith, omega arith)
+returns-2 c = (sym (columns-none (c .before .before .before .args .s .now) (c .before .loop .i) isBlankByte (c .loop-test .left)) ∙ c .before .loop .inv .0, omega arith, omega arith)
 
 pub next-word-spec : {M : Type 1} → statement M
 next-word-spec =

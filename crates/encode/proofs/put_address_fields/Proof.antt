@@ -17,11 +17,11 @@ Inv-loop copies size m₀ to count i₀ m i = (to + count ≤ length m₀) × (2
 abbrev μ-loop : tie.MeasureT-loop
 μ-loop copies size m₀ to count i₀ m i = count - i
 
-address-count-requires : tie.Need-address-count-requires Inv-loop μ-loop
-address-count-requires c κs = search needs
+constant-count-requires : tie.Need-constant-count-requires Inv-loop μ-loop
+constant-count-requires c κs = search needs
 
 loop-holds : tie.Need-loop-holds Inv-loop μ-loop
-loop-holds c = let e = c .address-count .ensures in let p = c .before .before .pre in (omega arith, omega arith, refl, rw (add-zero, sub-zero))
+loop-holds c = let e = c .constant-count .ensures in let p = c .before .before .pre in (omega arith, omega arith, refl, rw (add-zero, sub-zero))
 
 mul-m : tie.Need-mul-m Inv-loop μ-loop
 mul-m c = omega arith
@@ -42,14 +42,14 @@ loop-less : tie.Need-loop-less Inv-loop μ-loop
 loop-less c = omega arith
 
 loop-again : tie.Need-loop-again Inv-loop μ-loop
-loop-again c = let l = c .before .loop in (l .inv .0, l .inv .1, simp length-set (l .inv .2), l .inv .3 ∙ apart-more (l .m) (c .before .before .before .before .args .to) (l .i) (c .before .before .address-count .result) (c .loop-test .taken))
+loop-again c = let l = c .before .loop in (l .inv .0, l .inv .1, simp length-set (l .inv .2), l .inv .3 ∙ apart-more (l .m) (c .before .before .before .before .args .to) (l .i) (c .before .before .constant-count .result) (c .loop-test .taken))
 
 same-length : tie.Need-same-length Inv-loop μ-loop
 same-length c = c .before .loop .inv .2
 
 returns : tie.Need-returns Inv-loop μ-loop
 returns c =
-    let a = c .before .before .before .before .args in let l = c .before .loop in let n = c .before .before .address-count in
+    let a = c .before .before .before .before .args in let l = c .before .loop in let n = c .before .before .constant-count in
     sym (ap (sets (a .m .now) (a .to)) (address-fields (a .copies) (a .size) (a .v) 0 ∙ ap (λ k. twoApart k 0) (sym (n .ensures))) ∙ l .inv .3 ∙ apart-done (l .m) _ (l .i) (n .result) _ (omega arith))
 
 pub put-address-fields-spec : {M : Type 1} → statement M
@@ -58,7 +58,7 @@ put-address-fields-spec =
     (tie.spec
     Inv-loop
     μ-loop
-    address-count-requires
+    constant-count-requires
     loop-holds
     mul-m
     cast-m

@@ -6,7 +6,7 @@ use lib.Seq.{sets}
 use lib.ListN.{length}
 use Prim.Native.Nat.{_+_, _≤_}
 use Rattle.encode.specs.Pieces.{textOf, addressPieces, copied}
-use Rattle.encode.proofs.Steps.{address-size, copies-room, copies-more, copies-done}
+use Rattle.encode.proofs.Steps.{constant-size, copies-room, copies-more, copies-done}
 use Rattle.encode.proofs.put_addresses.Statement.{statement}
 use Rattle.encode.proofs.put_addresses.Tie as tie
 
@@ -16,8 +16,8 @@ Inv-loop copies size v m₀ to each left₀ at₀ m left at = (at + length (text
 abbrev μ-loop : tie.MeasureT-loop
 μ-loop copies size v m₀ to each left₀ at₀ m left at = left
 
-address-size-requires : tie.Need-address-size-requires Inv-loop μ-loop
-address-size-requires c κs = search needs
+constant-size-requires : tie.Need-constant-size-requires Inv-loop μ-loop
+constant-size-requires c κs = search needs
 
 loop-holds : tie.Need-loop-holds Inv-loop μ-loop
 loop-holds c = (c .before .before .pre, refl, refl)
@@ -36,11 +36,11 @@ loop-less c = omega arith
 
 loop-again : tie.Need-loop-again Inv-loop μ-loop
 loop-again c =
-    let a = c .before .before .before .before .before .before .before .before .args in let l = c .before .before .before .before .before .loop in let w = c .before .before .put-address in let each = c .before .before .before .before .before .before .address-size .ensures .0 in
+    let a = c .before .before .before .before .before .before .before .before .args in let l = c .before .before .before .before .before .loop in let w = c .before .before .put-address in let each = c .before .before .before .before .before .before .constant-size .ensures .0 in
     let r = copies-room (c .before .before .before .before .before .loop .left) (c .before .before .before .before .before .before .before .before .args .size) (c .before .before .before .before .before .before .before .before .args .v) (c .before .before .before .before .loop-test .taken) in (
       omega arith,
       w .kept .1 .1 .0 ∙ l .inv .1,
-      l .inv .2 ∙ copies-more (l .m) (w .last .1 .1 .0) (l .at) (l .left) (c .before .before .before .before .before .before .address-size .result) (addressPieces (a .size) (a .v)) (c .before .before .before .before .loop-test .taken) (w .ensures) (address-size (a .size) (a .v) ∙ sym each),
+      l .inv .2 ∙ copies-more (l .m) (w .last .1 .1 .0) (l .at) (l .left) (c .before .before .before .before .before .before .constant-size .result) (addressPieces (a .size) (a .v)) (c .before .before .before .before .loop-test .taken) (w .ensures) (constant-size (a .size) (a .v) ∙ sym each),
     )
 
 same-length : tie.Need-same-length Inv-loop μ-loop
@@ -55,7 +55,7 @@ put-addresses-spec =
     (tie.spec
     Inv-loop
     μ-loop
-    address-size-requires
+    constant-size-requires
     loop-holds
     put-address-requires
     add-at

@@ -3,7 +3,7 @@ use native.Mathlib.Omega.{arith}
 use Rattle.encode.specs.Pieces.{piecesOf}
 use Rattle.statements.specs.declared.Statement.{Statement}
 use Rattle.encode.proofs.Laws.{fields-half}
-use Rattle.encode.proofs.Steps.{two-fields, one-fields, jump-fields, addresses-fields, none-fields, two-count, addresses-count, operand-count}
+use Rattle.encode.proofs.Steps.{two-fields, one-fields, addresses-fields, fieldless, two-count, addresses-count, operand-count}
 use borrow.Author.Needs.{needs}
 use Rattle.encode.proofs.put_fields.Statement.{statement}
 use Rattle.encode.proofs.put_fields.Tie as tie
@@ -20,20 +20,14 @@ enum-known-st-2 c = search needs
 put-operand-field-requires : tie.Need-put-operand-field-requires
 put-operand-field-requires c κs = rw (c .before .before .st2 .given .1, one-fields, operand-count) at (c .before .before .before .before .before .pre .1)
 
-enum-told : tie.Need-enum-told
-enum-told c = search needs
-
 enum-known-st-3 : tie.Need-enum-known-st-3
 enum-known-st-3 c = search needs
 
 put-address-fields-requires : tie.Need-put-address-fields-requires
 put-address-fields-requires c κs =
-    let e = c .before .before .st3 .given in let h = fields-half 0 (piecesOf (Statement.Addresses (e .0 .0) (e .0 .1 .0) (e .0 .1 .1 .0))) in let n = addresses-count (e .0 .0) (e .0 .1 .0) (e .0 .1 .1 .0) in
+    let e = c .before .before .st3 .given in let h = fields-half 0 (piecesOf (Statement.AddressConstants (e .0 .0) (e .0 .1 .0) (e .0 .1 .1 .0))) in let n = addresses-count (e .0 .0) (e .0 .1 .0) (e .0 .1 .1 .0) in
     let short = rw (e .1) at (c .before .before .before .before .before .pre .0) in
     (rw (e .1, addresses-count) at (c .before .before .before .before .before .pre .1), omega arith)
-
-enum-told-2 : tie.Need-enum-told-2
-enum-told-2 c = search needs
 
 same-length : tie.Need-same-length
 same-length c = search needs
@@ -47,17 +41,14 @@ same-length-2 c = search needs
 returns-2 : tie.Need-returns-2
 returns-2 c = rw (c .before .before .before .before .before .st2 .given .1, one-fields) (c .before .before .put-operand-field .ensures)
 
-returns-3 : tie.Need-returns-3
-returns-3 c = rw (c .enum-told .given .1, jump-fields)
-
 same-length-3 : tie.Need-same-length-3
 same-length-3 c = search needs
 
-returns-4 : tie.Need-returns-4
-returns-4 c = rw (c .before .before .before .before .before .st3 .given .1, addresses-fields) (c .before .before .put-address-fields .ensures)
+returns-3 : tie.Need-returns-3
+returns-3 c = rw (c .before .before .before .before .before .st3 .given .1, addresses-fields) (c .before .before .put-address-fields .ensures)
 
-returns-5 : tie.Need-returns-5
-returns-5 c = rw (c .enum-told2 .given .1, none-fields)
+returns-4 : tie.Need-returns-4
+returns-4 c = rw (fieldless (c .before .before .args .st) (c .match .keys4))
 
 pub put-fields-spec : {M : Type 1} → statement M
 put-fields-spec =
@@ -67,15 +58,12 @@ put-fields-spec =
     put-two-fields-requires
     enum-known-st-2
     put-operand-field-requires
-    enum-told
     enum-known-st-3
     put-address-fields-requires
-    enum-told-2
     same-length
     returns
     same-length-2
     returns-2
-    returns-3
     same-length-3
-    returns-4
-    returns-5)
+    returns-3
+    returns-4)

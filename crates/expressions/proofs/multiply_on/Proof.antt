@@ -5,9 +5,10 @@ use Prim.Native.Nat.{_+_, _-_, _*_}
 use mathlib.Core.Path.{_≡_, refl, _∙_, sym, ap}
 use lib.ListN.{length}
 use mathlib.Core.Bool.{true}
+use Rattle.letters.specs.Text.{stands}
 use Rattle.letters.proofs.Laws.{is-byte, no-byte}
 use Rattle.terms.proofs.Within.{stands-inside}
-use Rattle.terms.specs.Terms.{stands, termAt}
+use Rattle.terms.specs.Terms.{termAt}
 use Rattle.names.specs.Names.{find}
 use Rattle.names.specs.Table.{namesIn}
 use Rattle.expressions.specs.Form.{endOf, factorsAt}

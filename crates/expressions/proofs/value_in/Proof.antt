@@ -1,4 +1,12 @@
--- `value_in` meets its contract, case by case.
+-- `value_in` meets its contract: a value in the first case, none in the others.
+use mathlib.Core.List.{[], _∷_}
+use mathlib.Core.Path.{_≡_, refl}
+use types.Run.{OneOf, miss}
+use denote.Enum.Declared.{tagOf}
+use Rattle.values.specs.declared.MaybeValue.{MaybeValue}
+use Rattle.expressions.specs.declared.Evaluated.{Evaluated}
+use Rattle.expressions.specs.Value.{valueIn}
+use Rattle.expressions.proofs.Evaluated.{the-type}
 use borrow.Author.Needs.{needs}
 use Rattle.expressions.proofs.value_in.Statement.{statement}
 use Rattle.expressions.proofs.value_in.Tie as tie
@@ -6,44 +14,18 @@ use Rattle.expressions.proofs.value_in.Tie as tie
 enum-known-e : tie.Need-enum-known-e
 enum-known-e c = search needs
 
-enum-told : tie.Need-enum-told
-enum-told c = search needs
-
-enum-told-2 : tie.Need-enum-told-2
-enum-told-2 c = search needs
-
-enum-told-3 : tie.Need-enum-told-3
-enum-told-3 c = search needs
-
-enum-told-4 : tie.Need-enum-told-4
-enum-told-4 c = search needs
-
 returns : tie.Need-returns
-returns c = search needs
+returns c = rw (c .before .e .given .1)
+
+others : (e : Evaluated) → OneOf (1 ∷ 2 ∷ 3 ∷ 4 ∷ []) (tagOf the-type e) → MaybeValue.Nothing ≡ valueIn e
+others (Evaluated.Good v) k = absurd (miss (1 ∷ 2 ∷ 3 ∷ 4 ∷ []) 0 tt k)
+others Evaluated.Malformed k = refl
+others Evaluated.Undefined k = refl
+others Evaluated.WrongKind k = refl
+others (Evaluated.OutOfRange x) k = refl
 
 returns-2 : tie.Need-returns-2
-returns-2 c = rw (c .enum-told .given .1)
-
-returns-3 : tie.Need-returns-3
-returns-3 c = rw (c .enum-told2 .given .1)
-
-returns-4 : tie.Need-returns-4
-returns-4 c = rw (c .enum-told3 .given .1)
-
-returns-5 : tie.Need-returns-5
-returns-5 c = rw (c .enum-told4 .given .1)
+returns-2 c = others (c .before .args .e) (c .match .keys2)
 
 pub value-in-spec : {M : Type 1} → statement M
-value-in-spec =
-    tie.close
-    (tie.spec
-    enum-known-e
-    enum-told
-    enum-told-2
-    enum-told-3
-    enum-told-4
-    returns
-    returns-2
-    returns-3
-    returns-4
-    returns-5)
+value-in-spec = tie.close (tie.spec enum-known-e returns returns-2)

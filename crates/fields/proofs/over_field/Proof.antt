@@ -6,16 +6,15 @@ use mathlib.Core.Path.{_≡_, refl, sym, ap, _∙_}
 use mathlib.Core.List.{_∷_}
 use lib.ListN.{drop, drop-of-length-le}
 use Rattle.values.proofs.Laws.{drop-turn}
-use Rattle.book.specs.Reading.{recordOf}
+use Rattle.book.specs.Reading.{recordThere}
 use Rattle.fields.specs.Fields.{overIn, overField}
 use Rattle.book.proofs.Places.{fields-length}
-use Rattle.values.proofs.Sums.{moved-over, moved-to}
 use Rattle.fields.proofs.Laws.{over-here, over-later, over-none}
 use Rattle.fields.proofs.over_field.Statement.{statement}
 use Rattle.fields.proofs.over_field.Tie as tie
 
 abbrev Inv-loop : tie.InvT-loop
-Inv-loop book p d count i₀ i = (i ≤ count) × (overField (d .0) (recordOf book p) ≡ overIn (d .0) (recordOf book p .text) (drop i (recordOf book p .fields)))
+Inv-loop book p d count i₀ i = (i ≤ count) × (overField d (recordThere book p) ≡ overIn d (recordThere book p .text) (drop i (recordThere book p .fields)))
 
 abbrev μ-loop : tie.MeasureT-loop
 μ-loop book p d count i₀ i = count - i
@@ -31,19 +30,19 @@ moved-field-requires c κs = (c .before .before .before .before .pre, c .offset-
 
 -- the offsets left, the one at hand first
 left : (c : tie.After-offset-at Inv-loop μ-loop)
-    → drop (c .before .before .loop .i) (recordOf (c .before .before .before .before .args .book .now) (c .before .before .before .before .args .p) .fields) ≡ c .offset-at .result ∷ drop (c .before .before .loop .i + 1) (recordOf (c .before .before .before .before .args .book .now) (c .before .before .before .before .args .p) .fields)
+    → drop (c .before .before .loop .i) (recordThere (c .before .before .before .before .args .book .now) (c .before .before .before .before .args .p) .fields) ≡ c .offset-at .result ∷ drop (c .before .before .loop .i + 1) (recordThere (c .before .before .before .before .args .book .now) (c .before .before .before .before .args .p) .fields)
 left c =
     let a = c .before .before .before .before .args in let i = c .before .before .loop .i in
     let n = fields-length (a .book .now) (a .p) (c .before .before .before .before .pre) in
-    drop-turn (recordOf (a .book .now) (a .p) .fields) i (omega arith) ∙ ap (λ o. o ∷ drop (i + 1) (recordOf (a .book .now) (a .p) .fields)) (sym (c .offset-at .ensures .0))
+    drop-turn (recordThere (a .book .now) (a .p) .fields) i (omega arith) ∙ ap (λ o. o ∷ drop (i + 1) (recordThere (a .book .now) (a .p) .fields)) (sym (c .offset-at .ensures .0))
 
 enum-told : tie.Need-enum-told Inv-loop μ-loop
 enum-told c = search needs
 
 returns : tie.Need-returns Inv-loop μ-loop
 returns c =
-    let a = c .before .before .before .before .before .before .before .args in let l = c .before .before .before .before .before .loop in let o = c .before .before .before .offset-at .result in let text = recordOf (a .book .now) (a .p) .text in
-    sym (l .inv .1 ∙ ap (λ os. overIn (a .d .0) text os) (left (c .before .before .before)) ∙ over-here (a .d .0) text o _ (moved-over (a .d) _ (sym (c .enum-told .given .1) ∙ c .before .before .moved-field .ensures)))
+    let a = c .before .before .before .before .before .before .before .args in let l = c .before .before .before .before .before .loop in let o = c .before .before .before .offset-at .result in let text = recordThere (a .book .now) (a .p) .text in
+    sym (l .inv .1 ∙ ap (λ os. overIn (a .d) text os) (left (c .before .before .before)) ∙ over-here (a .d) text o _ (sym (c .enum-told .given .1) ∙ c .before .before .moved-field .ensures))
 
 enum-told-2 : tie.Need-enum-told-2 Inv-loop μ-loop
 enum-told-2 c = search needs
@@ -56,14 +55,14 @@ loop-less c = omega arith
 
 loop-again : tie.Need-loop-again Inv-loop μ-loop
 loop-again c =
-    let a = c .before .before .before .before .before .before .before .args in let l = c .before .before .before .before .before .loop in let o = c .before .before .before .offset-at .result in let text = recordOf (a .book .now) (a .p) .text in
-    (omega arith, l .inv .1 ∙ ap (λ os. overIn (a .d .0) text os) (left (c .before .before .before)) ∙ over-later (a .d .0) text o _ (moved-to (a .d) _ _ (sym (c .enum-told2 .given .1) ∙ c .before .before .moved-field .ensures) .1))
+    let a = c .before .before .before .before .before .before .before .args in let l = c .before .before .before .before .before .loop in let o = c .before .before .before .offset-at .result in let text = recordThere (a .book .now) (a .p) .text in
+    (omega arith, l .inv .1 ∙ ap (λ os. overIn (a .d) text os) (left (c .before .before .before)) ∙ over-later (a .d) text o _ _ (sym (c .enum-told2 .given .1) ∙ c .before .before .moved-field .ensures))
 
 returns-2 : tie.Need-returns-2 Inv-loop μ-loop
 returns-2 c =
-    let a = c .before .before .before .args in let l = c .before .loop in let fields = recordOf (a .book .now) (a .p) .fields in
+    let a = c .before .before .before .args in let l = c .before .loop in let fields = recordThere (a .book .now) (a .p) .fields in
     let n = fields-length (a .book .now) (a .p) (c .before .before .before .pre) in
-    sym (l .inv .1 ∙ ap (λ os. overIn (a .d .0) (recordOf (a .book .now) (a .p) .text) os) (drop-of-length-le fields {i = l .i} (omega arith)) ∙ over-none (a .d .0) (recordOf (a .book .now) (a .p) .text))
+    sym (l .inv .1 ∙ ap (λ os. overIn (a .d) (recordThere (a .book .now) (a .p) .text) os) (drop-of-length-le fields {i = l .i} (omega arith)) ∙ over-none (a .d) (recordThere (a .book .now) (a .p) .text))
 
 pub over-field-spec : {M : Type 1} → statement M
 over-field-spec =

@@ -6,20 +6,19 @@ use mathlib.Core.Path.{_≡_, refl, sym, ap, subst, _∙_}
 use mathlib.Core.List.{List, _∷_}
 use mathlib.Core.Bool.{false}
 use lib.ListN.{length, drop, drop-of-length-le}
-use Rattle.values.proofs.Laws.{drop-turn, part-between, between-length}
-use Rattle.book.specs.Reading.{recordOf}
+use Rattle.values.proofs.Laws.{clash, drop-turn, part-between, between-length}
+use Rattle.book.specs.Reading.{recordThere}
 use Rattle.fields.specs.Fields.{overIn}
 use lib.Seq.{sets}
 use Rattle.book.proofs.Places.{fields-length, text-length}
-use Rattle.values.proofs.Sums.{moved-over, moved-to}
 use Rattle.fields.proofs.Laws.{over-here, over-later, Moving, moving-start, moving-turn, moving-end}
 use Rattle.fields.proofs.put_moved.Statement.{statement}
 use Rattle.fields.proofs.put_moved.Tie as tie
 
 abbrev Inv-loop : tie.InvT-loop
 Inv-loop book p d m₀ to text end count i₀ m i =
-    (i ≤ count) × (length m ≡ length m₀) × (overIn (d .0) (recordOf book p .text) (drop i (recordOf book p .fields)) ≡ false)
-    × Moving m₀ to (d .0) (recordOf book p) (drop i (recordOf book p .fields)) m
+    (i ≤ count) × (length m ≡ length m₀) × (overIn d (recordThere book p .text) (drop i (recordThere book p .fields)) ≡ false)
+    × Moving m₀ to d (recordThere book p) (drop i (recordThere book p .fields)) m
 
 abbrev μ-loop : tie.MeasureT-loop
 μ-loop book p d m₀ to text end count i₀ m i = count - i
@@ -39,14 +38,14 @@ part-put-bytes-end c = search needs
 put-bytes-requires : tie.Need-put-bytes-requires Inv-loop μ-loop
 put-bytes-requires c κs = let a = c .before .before .before .before .before .args in rw (between-length (a .book .now) (a .p .text) (a .p .size) (c .before .before .before .before .before .pre .0 .text)) (c .before .before .before .before .before .pre .1 .1)
 
-laid : (c : tie.After-put-bytes Inv-loop μ-loop) → c .put-bytes .last .0 ≡ sets (c .before .before .before .before .before .before .args .m .now) (c .before .before .before .before .before .before .args .to) (recordOf (c .before .before .before .before .before .before .args .book .now) (c .before .before .before .before .before .before .args .p) .text)
+laid : (c : tie.After-put-bytes Inv-loop μ-loop) → c .put-bytes .last .0 ≡ sets (c .before .before .before .before .before .before .args .m .now) (c .before .before .before .before .before .before .args .to) (recordThere (c .before .before .before .before .before .before .args .book .now) (c .before .before .before .before .before .before .args .p) .text)
 laid c = let a = c .before .before .before .before .before .before .args in c .put-bytes .ensures ∙ ap (λ t. sets (a .m .now) (a .to) t) (part-between (a .book .now) (a .p .text) (a .p .size))
 
 loop-holds : tie.Need-loop-holds Inv-loop μ-loop
 loop-holds c =
     let a = c .before .before .before .before .before .before .before .before .args in
     let n = text-length (a .book .now) (a .p) (c .before .before .before .before .before .before .before .before .pre .0) in
-    (omega arith, refl, c .before .before .before .before .before .before .before .before .pre .1 .0, moving-start (a .m .now) (a .to) (a .d .0) (recordOf (a .book .now) (a .p)) (omega arith) _ (laid (c .before .before)))
+    (omega arith, refl, c .before .before .before .before .before .before .before .before .pre .1 .0, moving-start (a .m .now) (a .to) (a .d) (recordThere (a .book .now) (a .p)) (omega arith) _ (laid (c .before .before)))
 
 offset-at-requires : tie.Need-offset-at-requires Inv-loop μ-loop
 offset-at-requires c κs = (c .before .before .before .before .before .before .before .before .before .before .pre .0, omega arith)
@@ -56,11 +55,11 @@ moved-field-requires c κs = (c .before .before .before .before .before .before 
 
 -- the offsets left, the one at hand first
 left : (c : tie.After-offset-at Inv-loop μ-loop)
-    → drop (c .before .before .loop .i) (recordOf (c .before .before .before .before .before .before .before .before .before .before .before .args .book .now) (c .before .before .before .before .before .before .before .before .before .before .before .args .p) .fields) ≡ c .offset-at .result ∷ drop (c .before .before .loop .i + 1) (recordOf (c .before .before .before .before .before .before .before .before .before .before .before .args .book .now) (c .before .before .before .before .before .before .before .before .before .before .before .args .p) .fields)
+    → drop (c .before .before .loop .i) (recordThere (c .before .before .before .before .before .before .before .before .before .before .before .args .book .now) (c .before .before .before .before .before .before .before .before .before .before .before .args .p) .fields) ≡ c .offset-at .result ∷ drop (c .before .before .loop .i + 1) (recordThere (c .before .before .before .before .before .before .before .before .before .before .before .args .book .now) (c .before .before .before .before .before .before .before .before .before .before .before .args .p) .fields)
 left c =
     let a = c .before .before .before .before .before .before .before .before .before .before .before .args in let i = c .before .before .loop .i in
     let n = fields-length (a .book .now) (a .p) (c .before .before .before .before .before .before .before .before .before .before .before .pre .0) in
-    drop-turn (recordOf (a .book .now) (a .p) .fields) i (omega arith) ∙ ap (λ o. o ∷ drop (i + 1) (recordOf (a .book .now) (a .p) .fields)) (sym (c .offset-at .ensures .0))
+    drop-turn (recordThere (a .book .now) (a .p) .fields) i (omega arith) ∙ ap (λ o. o ∷ drop (i + 1) (recordThere (a .book .now) (a .p) .fields)) (sym (c .offset-at .ensures .0))
 
 enum-told : tie.Need-enum-told Inv-loop μ-loop
 enum-told c = search needs
@@ -68,9 +67,9 @@ enum-told c = search needs
 -- no field is over
 not-over : (c : tie.After-enum-told Inv-loop μ-loop) → ⊥
 not-over c =
-    let a = c .before .before .before .before .before .before .before .before .before .before .before .before .before .before .args in let l = c .before .before .before .before .before .loop in let o = c .before .before .before .offset-at .result in let text = recordOf (a .book .now) (a .p) .text in
-    let no-more = sym (l .inv .2) ∙ ap (λ os. overIn (a .d .0) text os) (left (c .before .before .before)) ∙ over-here (a .d .0) text o _ (moved-over (a .d) _ (sym (c .enum-told .given .1) ∙ c .before .before .moved-field .ensures)) in
-    let z : _≡_ {A = ℕ} 0 1 = cc no-more in omega arith
+    let a = c .before .before .before .before .before .before .before .before .before .before .before .before .before .before .args in let l = c .before .before .before .before .before .loop in let o = c .before .before .before .offset-at .result in let text = recordThere (a .book .now) (a .p) .text in
+    let no-more = sym (l .inv .2) ∙ ap (λ os. overIn (a .d) text os) (left (c .before .before .before)) ∙ over-here (a .d) text o _ (sym (c .enum-told .given .1) ∙ c .before .before .moved-field .ensures) in
+    clash (cc no-more)
 
 same-length : tie.Need-same-length Inv-loop μ-loop
 same-length c = absurd (not-over c)
@@ -104,9 +103,9 @@ loop-less c = omega arith
 
 loop-again : tie.Need-loop-again Inv-loop μ-loop
 loop-again c =
-    let a = c .before .before .before .before .before .before .before .before .before .before .before .before .before .before .before .before .before .before .before .args in let l = c .before .before .before .before .before .before .before .before .before .before .loop in let o = c .before .before .before .before .before .before .before .before .offset-at .result in let text = recordOf (a .book .now) (a .p) .text in let w = c .before .before .put-word in
+    let a = c .before .before .before .before .before .before .before .before .before .before .before .before .before .before .before .before .before .before .before .args in let l = c .before .before .before .before .before .before .before .before .before .before .loop in let o = c .before .before .before .before .before .before .before .before .offset-at .result in let text = recordThere (a .book .now) (a .p) .text in let w = c .before .before .put-word in
     let n = text-length (a .book .now) (a .p) (c .before .before .before .before .before .before .before .before .before .before .before .before .before .before .before .before .before .before .before .pre .0) in
-    let (sum, low) = moved-to (a .d) _ _ (sym (c .before .before .before .before .before .moved .given .1) ∙ c .before .before .before .before .before .before .before .moved-field .ensures) in
+    let to = sym (c .before .before .before .before .before .moved .given .1) ∙ c .before .before .before .before .before .before .before .moved-field .ensures in
     let fits = c .before .before .before .before .before .before .before .before .offset-at .ensures .1 in
     let kept : length (w .last .0) ≡ length (l .m) = w .kept .0 in
     let same = l .inv .1 in
@@ -115,9 +114,9 @@ loop-again c =
     let rest = left (c .before .before .before .before .before .before .before .before) in (
       omega arith,
       kept ∙ same,
-      sym (over-later (a .d .0) text o _ low) ∙ ap (λ os. overIn (a .d .0) text os) (sym rest) ∙ l .inv .2,
-      moving-turn (c .before .before .before .before .before .before .before .before .before .before .before .before .before .put-bytes .last .0) (a .to) (a .d .0) (recordOf (a .book .now) (a .p)) (omega arith) o _ (l .m) (w .last .0) _
-          (subst (λ (os : List ℕ). Moving (c .before .before .before .before .before .before .before .before .before .before .before .before .before .put-bytes .last .0) (a .to) (a .d .0) (recordOf (a .book .now) (a .p)) os (l .m)) rest (l .inv .3)) (omega arith) sum (w .ensures),
+      sym (over-later (a .d) text o _ _ to) ∙ ap (λ os. overIn (a .d) text os) (sym rest) ∙ l .inv .2,
+      moving-turn (c .before .before .before .before .before .before .before .before .before .before .before .before .before .put-bytes .last .0) (a .to) (a .d) (recordThere (a .book .now) (a .p)) (omega arith) o _ (l .m) (w .last .0) _
+          (subst (λ (os : List ℕ). Moving (c .before .before .before .before .before .before .before .before .before .before .before .before .before .put-bytes .last .0) (a .to) (a .d) (recordThere (a .book .now) (a .p)) os (l .m)) rest (l .inv .3)) (omega arith) to (w .ensures),
     )
 
 same-length-2 : tie.Need-same-length-2 Inv-loop μ-loop
@@ -128,10 +127,10 @@ returns-2 c =
     let a = c .before .before .before .before .before .before .before .before .before .before .args in let l = c .before .loop in
     let n = text-length (a .book .now) (a .p) (c .before .before .before .before .before .before .before .before .before .before .pre .0) in
     let f = fields-length (a .book .now) (a .p) (c .before .before .before .before .before .before .before .before .before .before .pre .0) in
-    let none = drop-of-length-le (recordOf (a .book .now) (a .p) .fields) {i = l .i} (omega arith) in
+    let none = drop-of-length-le (recordThere (a .book .now) (a .p) .fields) {i = l .i} (omega arith) in
     let roomy = c .before .before .before .before .before .before .before .before .before .before .pre .1 .1 in
-    moving-end (a .m .now) (a .to) (a .d .0) (recordOf (a .book .now) (a .p)) (omega arith) _ (l .m) (laid (c .before .before .before .before))
-    (subst (λ (os : List ℕ). Moving (c .before .before .before .before .put-bytes .last .0) (a .to) (a .d .0) (recordOf (a .book .now) (a .p)) os (l .m)) none (l .inv .3))
+    moving-end (a .m .now) (a .to) (a .d) (recordThere (a .book .now) (a .p)) (omega arith) _ (l .m) (laid (c .before .before .before .before))
+    (subst (λ (os : List ℕ). Moving (c .before .before .before .before .put-bytes .last .0) (a .to) (a .d) (recordThere (a .book .now) (a .p)) os (l .m)) none (l .inv .3))
 
 pub put-moved-spec : {M : Type 1} → statement M
 put-moved-spec =

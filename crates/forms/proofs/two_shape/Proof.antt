@@ -8,8 +8,8 @@ use borrow.Author.Needs.{needs}
 use Rattle.forms.proofs.two_shape.Statement.{statement}
 use Rattle.forms.proofs.two_shape.Tie as tie
 
-first-written-requires : tie.Need-first-written-requires
-first-written-requires c κs = search needs
+first-allowed-requires : tie.Need-first-allowed-requires
+first-allowed-requires c κs = search needs
 
 address-at-requires : tie.Need-address-at-requires
 address-at-requires c κs = search needs
@@ -26,35 +26,35 @@ byte-at-requires c κs = search needs
 add-two-of : tie.Need-add-two-of
 add-two-of c = omega (arith, stands-inside 44 (c .before .before .before .before .before .before .before .before .args .o .now) (c .before .before .before .a .given .0 .1 .0) (omega arith) (is-byte (c .before .byte-at .ensures) (c .if1 .taken)))
 
-second-written-requires : tie.Need-second-written-requires
-second-written-requires c κs = search needs
+second-allowed-requires : tie.Need-second-allowed-requires
+second-allowed-requires c κs = search needs
 
 two-of-requires : tie.Need-two-of-requires
 two-of-requires c κs = search needs
 
 returns : tie.Need-returns
 unfolding twoShape
-returns c = rw (sym (c .before .before .before .before .first-written .ensures), sym (c .before .before .before .address-at .ensures), c .before .q .given .1)
+returns c = rw (sym (c .before .before .before .before .first-allowed .ensures), sym (c .before .before .before .address-at .ensures), c .before .q .given .1)
 
 returns-2 : tie.Need-returns-2
 unfolding twoShape
-returns-2 c = rw (sym (c .before .before .before .before .before .before .before .before .first-written .ensures), sym (c .before .before .before .before .before .before .before .address-at .ensures), c .before .before .before .before .before .a .given .1, is-byte (c .before .before .before .byte-at .ensures) (c .before .before .if1 .taken), sym (c .before .second-written .ensures)) (c .two-of .ensures)
+returns-2 c = rw (sym (c .before .before .before .before .before .before .before .before .first-allowed .ensures), sym (c .before .before .before .before .before .before .before .address-at .ensures), c .before .before .before .before .before .a .given .1, is-byte (c .before .before .before .byte-at .ensures) (c .before .before .if1 .taken), sym (c .before .second-allowed .ensures)) (c .two-of .ensures)
 
 returns-3 : tie.Need-returns-3
 unfolding twoShape
-returns-3 c = rw (sym (c .before .before .before .before .before .before .first-written .ensures), sym (c .before .before .before .before .before .address-at .ensures), c .before .before .before .a .given .1, no-byte (c .before .byte-at .ensures) (c .if1 .left))
+returns-3 c = rw (sym (c .before .before .before .before .before .before .first-allowed .ensures), sym (c .before .before .before .before .before .address-at .ensures), c .before .before .before .a .given .1, no-byte (c .before .byte-at .ensures) (c .if1 .left))
 
 pub two-shape-spec : {M : Type 1} → statement M
 two-shape-spec =
     tie.close
     (tie.spec
-    first-written-requires
+    first-allowed-requires
     address-at-requires
     enum-known-q
     enum-known-a
     byte-at-requires
     add-two-of
-    second-written-requires
+    second-allowed-requires
     two-of-requires
     returns
     returns-2

@@ -1,10 +1,8 @@
--- `is_outside` meets its contract. Over 65535 is outside any storage.
-use native.Mathlib.Omega.{arith}
+-- `is_outside` meets its contract. By the moved address.
 use mathlib.Core.Path.{sym, ap, _∙_}
 use Prim.Native.Nat.{_+_}
 use lib.Dec.{ltb}
-use borrow.Author.Tests.{lt-ltb}
-use Rattle.values.proofs.Sums.{moved-over, moved-to}
+use Rattle.load.specs.Load.{outsideAt}
 use borrow.Author.Needs.{needs}
 use Rattle.load.proofs.is_outside.Statement.{statement}
 use Rattle.load.proofs.is_outside.Tie as tie
@@ -25,13 +23,11 @@ add-result : tie.Need-add-result
 add-result c = search needs
 
 returns : tie.Need-returns
-returns c = let a = c .before .before .before .args in
-    let over = moved-over _ _ (sym (c .enum-told .given .1) ∙ c .before .before .plus .ensures) in
-    sym (lt-ltb (a .room) (a .p .address .0 + a .d .0 + a .p .size) (omega arith))
+returns c = let a = c .before .before .before .args in ap (λ x. outsideAt x (a .p .size) (a .room)) (sym (c .enum-told .given .1) ∙ c .before .before .plus .ensures)
 
 returns-2 : tie.Need-returns-2
 returns-2 c = let a = c .before .before .before .before .before .before .args in
-    ap (λ n. ltb (a .room) (n + a .p .size)) (c .before .wide16 .ensures .0 ∙ moved-to _ _ _ (sym (c .before .before .before .address .given .1) ∙ c .before .before .before .before .before .plus .ensures) .0)
+    ap (λ n. ltb (a .room) (n + a .p .size)) (c .before .wide16 .ensures .0) ∙ ap (λ x. outsideAt x (a .p .size) (a .room)) (sym (c .before .before .before .address .given .1) ∙ c .before .before .before .before .before .plus .ensures)
 
 pub is-outside-spec : {M : Type 1} → statement M
 is-outside-spec =

@@ -5,24 +5,23 @@ use mathlib.Core.Path.{_≡_, refl, sym, ap, _∙_}
 use Prim.Native.Nat.{_+_, _-_, _*_, _≤_}
 use lib.ListN.{length}
 use Rattle.book.specs.Book.{Record}
-use Rattle.book.specs.Reading.{stepAt, recordOf, recordsIn}
+use Rattle.book.specs.Reading.{stepAt, recordThere, recordsIn}
 use Rattle.book.specs.declared.Step.{Step}
-use Rattle.book.proofs.Turns.{Left, start, onward, ended, never, gave, first}
+use Rattle.book.proofs.Turns.{Left, start, onward, no-more, gave, first}
 use Rattle.fields.specs.Fields.{overField, movedText}
 use mathlib.Core.Bool.{false}
-use borrow.Author.Tests.{ltb-false}
 use lib.Seq.{sets}
 use Rattle.book.proofs.Places.{text-length}
 use Rattle.values.proofs.Sums.{moved-over, moved-to}
 use Rattle.load.specs.Load.{outside, roomIn, stored, storedAll, bytesStored}
-use Rattle.load.proofs.Laws.{none-fails, stored-is, stored-none, bytes-none, Still, still-first}
+use Rattle.load.proofs.Laws.{none-fails, inside-is, stored-is, stored-none, bytes-none, Still, still-first}
 use Rattle.load.proofs.store_all.Statement.{statement}
 use Rattle.load.proofs.store_all.Tie as tie
 
 abbrev Inv-loop : tie.InvT-loop
 Inv-loop book d m₀ count₀ cursor₀ m count cursor =
     (length m ≡ length m₀) × (count ≤ 256 * cursor .card) × (cursor .card ≤ 4000)
-    × Left book (cursor .at) (cursor .card) (λ rs. Still (d .0) (roomIn m₀) (storedAll (d .0) (recordsIn book) m₀) (bytesStored (recordsIn book)) m count rs)
+    × Left book (cursor .at) (cursor .card) (λ rs. Still d (roomIn m₀) (storedAll d (recordsIn book) m₀) (bytesStored (recordsIn book)) m count rs)
 
 abbrev μ-loop : tie.MeasureT-loop
 μ-loop book d m₀ count₀ cursor₀ m count cursor = length book - cursor .at
@@ -38,29 +37,6 @@ loop-holds c = let (e, q) = c .before .before .before .pre .0 in
 next-requires : tie.Need-next-requires Inv-loop μ-loop
 next-requires c κs = search needs
 
-enum-told : tie.Need-enum-told Inv-loop μ-loop
-enum-told c = search needs
-
-same-length : tie.Need-same-length Inv-loop μ-loop
-same-length c = c .before .before .before .loop .inv .0
-
-returns : tie.Need-returns Inv-loop μ-loop
-returns c = absurd (never _ _ _ _ (c .before .before .before .loop .inv .3) (sym (c .enum-told .given .1) ∙ c .before .before .next .ensures))
-
-enum-told-2 : tie.Need-enum-told-2 Inv-loop μ-loop
-enum-told-2 c = search needs
-
-same-length-2 : tie.Need-same-length-2 Inv-loop μ-loop
-same-length-2 c = c .before .before .before .loop .inv .0
-
-returns-2 : tie.Need-returns-2 Inv-loop μ-loop
-returns-2 c =
-    let l = c .before .before .before .loop in
-    let still = ended _ _ _ _ (l .inv .3) (sym (c .enum-told2 .given .1) ∙ c .before .before .next .ensures) in
-    let bytes = still .bytes in
-    let none = bytes-none in
-    ((omega arith, omega arith), sym (still .storage ∙ stored-none _ _))
-
 enum-known-p : tie.Need-enum-known-p Inv-loop μ-loop
 enum-known-p c = search needs
 
@@ -72,27 +48,26 @@ read : (c : tie.After-p Inv-loop μ-loop) → Step.Record (c .p .given .0 .0) (c
 read c = sym (c .p .given .1) ∙ c .before .before .next .ensures
 
 -- its text, moved, lies in storage, and none of its fields is over
-fits : (c : tie.After-p Inv-loop μ-loop) → (c .p .given .0 .0 .address .0 + c .before .before .before .before .before .before .before .args .d .0 + c .p .given .0 .0 .size ≤ roomIn (c .before .before .before .before .before .before .before .args .m .now)) × (overField (c .before .before .before .before .before .before .before .args .d .0) (recordOf (c .before .before .before .before .before .before .before .args .book .now) (c .p .given .0 .0)) ≡ false)
+fits : (c : tie.After-p Inv-loop μ-loop) → (c .p .given .0 .0 .address .0 + c .before .before .before .before .before .before .before .args .d .0 ≤ 65535) × (c .p .given .0 .0 .address .0 + c .before .before .before .before .before .before .before .args .d .0 + c .p .given .0 .0 .size ≤ roomIn (c .before .before .before .before .before .before .before .args .m .now)) × (overField (c .before .before .before .before .before .before .before .args .d) (recordThere (c .before .before .before .before .before .before .before .args .book .now) (c .p .given .0 .0)) ≡ false)
 fits c =
     let a = c .before .before .before .before .before .before .before .args in let p = c .p .given .0 .0 in let l = c .before .before .before .loop in
     let (rest, still) = first _ _ _ _ (l .inv .3) _ _ (read c) in
     let g = gave _ _ _ _ _ (read c) .sound in
     let n = text-length (a .book .now) p g in
-    let inside = none-fails (outside (a .d .0) (roomIn (a .m .now))) (recordOf (a .book .now) p) rest (g .card .0) (still .inside) .0 in
-    let low = ltb-false (roomIn (a .m .now)) (p .address .0 + a .d .0 + length (recordOf (a .book .now) p .text)) inside in
-    (omega arith, none-fails (overField (a .d .0)) (recordOf (a .book .now) p) rest (g .card .0) (still .under) .0)
+    let r = recordThere (a .book .now) p in
+    let (low, ends) = inside-is (a .d) (roomIn (a .m .now)) r (none-fails (outside (a .d) (roomIn (a .m .now))) r rest (g .card .0) (still .inside) .0) in
+    (low, omega arith, none-fails (overField (a .d)) r rest (g .card .0) (still .under) .0)
 
-enum-told-3 : tie.Need-enum-told-3 Inv-loop μ-loop
-enum-told-3 c = search needs
+enum-told : tie.Need-enum-told Inv-loop μ-loop
+enum-told c = search needs
 
-same-length-3 : tie.Need-same-length-3 Inv-loop μ-loop
-same-length-3 c = c .before .before .before .before .before .before .before .loop .inv .0
+same-length : tie.Need-same-length Inv-loop μ-loop
+same-length c = c .before .before .before .before .before .before .before .loop .inv .0
 
-returns-3 : tie.Need-returns-3 Inv-loop μ-loop
-returns-3 c =
+returns : tie.Need-returns Inv-loop μ-loop
+returns c =
     let low = fits (c .before .before .before .before) .0 in
-    let long = gave _ _ _ _ _ (read (c .before .before .before .before)) .sound .long in
-    let over = moved-over _ _ (sym (c .enum-told3 .given .1) ∙ c .before .before .plus .ensures) in
+    let over = moved-over _ _ (sym (c .enum-told .given .1) ∙ c .before .before .plus .ensures) in
     absurd (omega arith)
 
 enum-known-address : tie.Need-enum-known-address Inv-loop μ-loop
@@ -108,7 +83,7 @@ place-is c = c .wide16 .ensures .0 ∙ moved-to _ _ _ (sym (c .before .before .b
 put-moved-requires : tie.Need-put-moved-requires Inv-loop μ-loop
 put-moved-requires c κs =
     let low = fits (c .before .before .before .before .before .before .before) in let to = place-is c in let same = c .before .before .before .before .before .before .before .before .before .before .loop .inv .0 in
-    (gave _ _ _ _ _ (read (c .before .before .before .before .before .before .before)) .sound, (low .1, omega (arith, low .0)))
+    (gave _ _ _ _ _ (read (c .before .before .before .before .before .before .before)) .sound, (low .2, omega (arith, low .1)))
 
 add-count : tie.Need-add-count Inv-loop μ-loop
 add-count c = let short = gave _ _ _ _ _ (read (c .before .before .before .before .before .before .before .before .before .before .before)) .sound .short in let l = c .before .before .before .before .before .before .before .before .before .before .before .before .before .before .loop .inv in omega (arith, l .1, l .2)
@@ -122,8 +97,8 @@ loop-again c =
     let q = read (c .before .before .before .before .before .before .before .before .before .before .before) in
     let g = gave _ _ _ _ _ q in
     let n = text-length (a .book .now) p (g .sound) in
-    let is : c .before .before .before .put-moved .last .1 .1 .1 .0 ≡ stored (a .d .0) (recordOf (a .book .now) p) (l .m) =
-    w .ensures ∙ ap (λ to. sets (l .m) to (movedText (a .d .0) (recordOf (a .book .now) p))) (place-is (c .before .before .before .before)) ∙ sym (stored-is (a .d .0) (recordOf (a .book .now) p) (l .m)) in
+    let is : c .before .before .before .put-moved .last .1 .1 .1 .0 ≡ stored (a .d) (recordThere (a .book .now) p) (l .m) =
+    w .ensures ∙ ap (λ to. sets (l .m) to (movedText (a .d) (recordThere (a .book .now) p))) (place-is (c .before .before .before .before)) ∙ sym (stored-is (a .d) (recordThere (a .book .now) p) (l .m) (fits (c .before .before .before .before .before .before .before .before .before .before .before) .0)) in
     let few = l .inv .1 in
     let (low, high) = g .sound .card in
     let short = g .sound .short in
@@ -132,8 +107,19 @@ loop-again c =
       w .kept .1 .1 .1 .0 ∙ l .inv .0,
       omega arith,
       omega arith,
-      onward _ _ _ _ (l .inv .3) _ _ _ q (λ rest still. still-first (a .d .0) _ _ _ (l .m) _ (l .count) (p .size) (recordOf (a .book .now) p) rest still low n is),
+      onward _ _ _ _ (l .inv .3) _ _ _ q (λ rest still. still-first (a .d) _ _ _ (l .m) _ (l .count) (p .size) (recordThere (a .book .now) p) rest still low n is),
     )
+
+same-length-2 : tie.Need-same-length-2 Inv-loop μ-loop
+same-length-2 c = c .before .before .loop .inv .0
+
+returns-2 : tie.Need-returns-2 Inv-loop μ-loop
+returns-2 c =
+    let l = c .before .before .loop in
+    let still = no-more _ _ _ _ (l .inv .3) _ (c .match .keys2) (c .before .next .ensures) in
+    let bytes = still .bytes in
+    let none = bytes-none in
+    ((omega arith, omega arith), sym (still .storage ∙ stored-none _ _))
 
 pub store-all-spec : {M : Type 1} → statement M
 store-all-spec =
@@ -144,20 +130,16 @@ store-all-spec =
     first-requires
     loop-holds
     next-requires
+    enum-known-p
+    plus-requires
     enum-told
     same-length
     returns
-    enum-told-2
-    same-length-2
-    returns-2
-    enum-known-p
-    plus-requires
-    enum-told-3
-    same-length-3
-    returns-3
     enum-known-address
     wide16-requires
     put-moved-requires
     add-count
     loop-less
-    loop-again)
+    loop-again
+    same-length-2
+    returns-2)

@@ -16,11 +16,11 @@ mul-at c = search needs
 number-at-requires : tie.Need-number-at-requires
 number-at-requires c κs = search needs
 
-entry-at-requires : tie.Need-entry-at-requires
-entry-at-requires c κs = search needs
+meaning-at-requires : tie.Need-meaning-at-requires
+meaning-at-requires c κs = search needs
 
 returns : tie.Need-returns
-returns c = let a = c .before .before .before .before .before .before .args in c .entry-at .ensures ∙ sym (place-met (a .count) (a .t .now) (a .number) (c .before .before .before .before .place .result) (c .before .before .before .before .place .ensures .0) (c .before .before .before .if1 .taken) (sym (c .before .before .number-at .ensures) ∙ c .before .if2 .taken))
+returns c = let a = c .before .before .before .before .before .before .args in c .meaning-at .ensures ∙ sym (place-met (a .count) (a .t .now) (a .number) (c .before .before .before .before .place .result) (c .before .before .before .before .place .ensures .0) (c .before .before .before .if1 .taken) (sym (c .before .before .number-at .ensures) ∙ c .before .if2 .taken))
 
 returns-2 : tie.Need-returns-2
 returns-2 c = let a = c .before .before .before .before .before .args in sym (place-missed (a .count) (a .t .now) (a .number) (c .before .before .before .place .result) (c .before .before .before .before .before .pre .1) (c .before .before .before .place .ensures .0) (λ h q. c .if2 .left (c .before .number-at .ensures ∙ q)))
@@ -35,7 +35,7 @@ look-up-spec =
     place-requires
     mul-at
     number-at-requires
-    entry-at-requires
+    meaning-at-requires
     returns
     returns-2
     returns-3)

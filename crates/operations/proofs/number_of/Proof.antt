@@ -5,35 +5,35 @@ use borrow.Author.Needs.{needs}
 use Rattle.operations.proofs.number_of.Statement.{statement}
 use Rattle.operations.proofs.number_of.Tie as tie
 
-array-read-wide : tie.Need-array-read-wide
-array-read-wide c = search needs
+array-read-wide64 : tie.Need-array-read-wide64
+array-read-wide64 c = search needs
 
-wide-requires : tie.Need-wide-requires
-wide-requires c κs = search needs
+wide64-requires : tie.Need-wide64-requires
+wide64-requires c κs = search needs
 
-array-read-wide-2 : tie.Need-array-read-wide-2
-array-read-wide-2 c = search needs
+array-read-wide64-2 : tie.Need-array-read-wide64-2
+array-read-wide64-2 c = search needs
 
-wide-requires-2 : tie.Need-wide-requires-2
-wide-requires-2 c κs = search needs
+wide64-requires-2 : tie.Need-wide64-requires-2
+wide64-requires-2 c κs = search needs
 
-array-read-wide-3 : tie.Need-array-read-wide-3
-array-read-wide-3 c = search needs
+array-read-wide64-3 : tie.Need-array-read-wide64-3
+array-read-wide64-3 c = search needs
 
-wide-requires-3 : tie.Need-wide-requires-3
-wide-requires-3 c κs = search needs
+wide64-requires-3 : tie.Need-wide64-requires-3
+wide64-requires-3 c κs = search needs
 
-array-read-wide-4 : tie.Need-array-read-wide-4
-array-read-wide-4 c = search needs
+array-read-wide64-4 : tie.Need-array-read-wide64-4
+array-read-wide64-4 c = search needs
 
-wide-requires-4 : tie.Need-wide-requires-4
-wide-requires-4 c κs = search needs
+wide64-requires-4 : tie.Need-wide64-requires-4
+wide64-requires-4 c κs = search needs
 
-array-read-wide-5 : tie.Need-array-read-wide-5
-array-read-wide-5 c = search needs
+array-read-wide64-5 : tie.Need-array-read-wide64-5
+array-read-wide64-5 c = search needs
 
-wide-requires-5 : tie.Need-wide-requires-5
-wide-requires-5 c κs = search needs
+wide64-requires-5 : tie.Need-wide64-requires-5
+wide64-requires-5 c κs = search needs
 
 mul-result : tie.Need-mul-result
 mul-result c = search needs
@@ -67,16 +67,16 @@ pub number-of-spec : {M : Type 1} → statement M
 number-of-spec =
     tie.close
     (tie.spec
-    array-read-wide
-    wide-requires
-    array-read-wide-2
-    wide-requires-2
-    array-read-wide-3
-    wide-requires-3
-    array-read-wide-4
-    wide-requires-4
-    array-read-wide-5
-    wide-requires-5
+    array-read-wide64
+    wide64-requires
+    array-read-wide64-2
+    wide64-requires-2
+    array-read-wide64-3
+    wide64-requires-3
+    array-read-wide64-4
+    wide64-requires-4
+    array-read-wide64-5
+    wide64-requires-5
     mul-result
     add-result
     mul-result-2

@@ -1,14 +1,16 @@
 -- `operation_in` meets its contract: the constant is the list beside the letters.
 use mathlib.Core.Path.{refl, sym}
 use lib.ListN.{List·getD-eq-default}
-use Rattle.operations.specs.Sorted.{sortedOperations}
+use Rattle.operations.specs.Sorted.{inserted, sorted, sortedOperations}
+use Rattle.operations.specs.Rows.{lettersOf, number5}
+use Rattle.operations.specs.Model10.{model10, ownOperations, twoAddresses, oneAddresses, branches, jumps, extendedMoves, extendedBranches, extendedJumps}
 use Rattle.operations.specs.declared.Operation.the-variants.{Unknown}
 use borrow.Author.Needs.{needs}
 use Rattle.operations.proofs.operation_in.Statement.{statement}
 use Rattle.operations.proofs.operation_in.Tie as tie
 
 returns : tie.Need-returns
-unfolding sortedOperations
+unfolding sortedOperations sorted inserted model10 ownOperations twoAddresses oneAddresses branches jumps extendedMoves extendedBranches extendedJumps lettersOf number5
 returns c = sym (List·getD-eq-default sortedOperations Unknown (c .if1 .taken))
 
 mul-o : tie.Need-mul-o
@@ -18,7 +20,7 @@ array-copy-out-o : tie.Need-array-copy-out-o
 array-copy-out-o c = search needs
 
 returns-2 : tie.Need-returns-2
-unfolding sortedOperations
+unfolding sortedOperations sorted inserted model10 ownOperations twoAddresses oneAddresses branches jumps extendedMoves extendedBranches extendedJumps lettersOf number5
 returns-2 c = refl
 
 pub operation-in-spec : {M : Type 1} → statement M

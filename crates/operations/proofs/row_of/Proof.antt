@@ -1,6 +1,7 @@
 -- `row_of` meets its contract: the table's letters rise.
-use Rattle.operations.specs.Sorted.{mnemonics, sortedLetters}
-use Rattle.operations.specs.Rows.{lettersOf}
+use Rattle.operations.specs.Sorted.{inserted, sorted, sortedLetters}
+use Rattle.operations.specs.Rows.{lettersOf, number5}
+use Rattle.operations.specs.Model10.{model10, ownOperations, twoAddresses, oneAddresses, branches, jumps, extendedMoves, extendedBranches, extendedJumps}
 use Rattle.operations.proofs.Table.{sorted-rising}
 use borrow.Author.Needs.{needs}
 use Rattle.operations.proofs.row_of.Statement.{statement}
@@ -10,11 +11,11 @@ slice-aggregate-find-row : tie.Need-slice-aggregate-find-row
 slice-aggregate-find-row c = search needs
 
 find-row-requires : tie.Need-find-row-requires
-unfolding sortedLetters mnemonics lettersOf
+unfolding sortedLetters sorted inserted model10 ownOperations twoAddresses oneAddresses branches jumps extendedMoves extendedBranches extendedJumps lettersOf number5
 find-row-requires c κs = sorted-rising
 
 returns : tie.Need-returns
-unfolding sortedLetters mnemonics lettersOf
+unfolding sortedLetters sorted inserted model10 ownOperations twoAddresses oneAddresses branches jumps extendedMoves extendedBranches extendedJumps lettersOf number5
 returns c = c .find-row .ensures
 
 pub row-of-spec : {M : Type 1} → statement M

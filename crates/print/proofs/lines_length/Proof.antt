@@ -3,9 +3,9 @@ use borrow.Author.Needs.{needs}
 use native.Mathlib.Omega.{arith}
 use mathlib.Core.Path.{_≡_, sym, ap, _∙_}
 use Rattle.book.specs.Book.{Record}
-use Rattle.book.specs.Reading.{stepAt, recordOf, recordsIn}
+use Rattle.book.specs.Reading.{stepAt, recordThere, recordsIn}
 use Rattle.book.specs.declared.Step.{Step}
-use Rattle.book.proofs.Turns.{Left, start, onward, first, ended, never, gave}
+use Rattle.book.proofs.Turns.{Left, start, onward, first, no-more, gave}
 use Rattle.print.specs.Print.{recordLine, recordLines}
 use lib.ListN.{length, length-append}
 use Prim.Native.Nat.{_+_, _-_, _*_, _≤_}
@@ -29,18 +29,6 @@ loop-holds c = let (e, q) = c .before .before .pre in rw (c .first .ensures .0, 
 next-requires : tie.Need-next-requires Inv-loop μ-loop
 next-requires c κs = search needs
 
-enum-told : tie.Need-enum-told Inv-loop μ-loop
-enum-told c = search needs
-
-returns : tie.Need-returns Inv-loop μ-loop
-returns c = absurd (never _ _ _ _ (c .before .before .before .loop .inv .2) (sym (c .enum-told .given .1) ∙ c .before .before .next .ensures))
-
-enum-told-2 : tie.Need-enum-told-2 Inv-loop μ-loop
-enum-told-2 c = search needs
-
-returns-2 : tie.Need-returns-2 Inv-loop μ-loop
-returns-2 c = let l = c .before .before .before .loop in let e = ended _ _ _ _ (l .inv .2) (sym (c .enum-told2 .given .1) ∙ c .before .before .next .ensures) in let n = ap length lines-none in (omega arith, omega arith)
-
 enum-known-p : tie.Need-enum-known-p Inv-loop μ-loop
 enum-known-p c = search needs
 
@@ -63,11 +51,14 @@ loop-again c =
     let g = gave _ _ _ _ _ q in
     let rise = g .rise in let same = g .same in let (low, high) = g .sound .card in let few = l .inv .0 in
     let (is, most) = c .line-length .ensures in
-    let n = line-length (recordOf (a .book .now) p) (p .count) (p .size) (fields-length (a .book .now) p (g .sound)) (text-length (a .book .now) p (g .sound)) in (
+    let n = line-length (recordThere (a .book .now) p) (p .count) (p .size) (fields-length (a .book .now) p (g .sound)) (text-length (a .book .now) p (g .sound)) in (
       omega arith,
       omega arith,
-      onward _ _ _ _ (l .inv .2) _ _ _ q (λ rest e. let f = ap length (lines-first (recordOf (a .book .now) p) rest) in let k = length-append (recordLine (recordOf (a .book .now) p)) (recordLines rest) in omega arith),
+      onward _ _ _ _ (l .inv .2) _ _ _ q (λ rest e. let f = ap length (lines-first (recordThere (a .book .now) p) rest) in let k = length-append (recordLine (recordThere (a .book .now) p)) (recordLines rest) in omega arith),
     )
+
+returns : tie.Need-returns Inv-loop μ-loop
+returns c = let l = c .before .before .loop in let e = no-more _ _ _ _ (l .inv .2) _ (c .match .keys2) (c .before .next .ensures) in let n = ap length lines-none in (omega arith, omega arith)
 
 pub lines-length-spec : {M : Type 1} → statement M
 lines-length-spec =
@@ -78,12 +69,9 @@ lines-length-spec =
     first-requires
     loop-holds
     next-requires
-    enum-told
-    returns
-    enum-told-2
-    returns-2
     enum-known-p
     line-length-requires
     add-sum
     loop-less
-    loop-again)
+    loop-again
+    returns)

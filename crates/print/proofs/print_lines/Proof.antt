@@ -19,8 +19,8 @@ lines-length-requires c κs = search needs
 add-all : tie.Need-add-all
 add-all c = search needs
 
-put-header-requires : tie.Need-put-header-requires
-put-header-requires c κs = let (e, q) = c .before .before .before .before .before .pre in let all = c .before .before .lines-length .ensures .0 in (omega arith, long-enough _ e q)
+put-header-line-requires : tie.Need-put-header-line-requires
+put-header-line-requires c κs = let (e, q) = c .before .before .before .before .before .pre in let all = c .before .before .lines-length .ensures .0 in (omega arith, long-enough _ e q)
 
 put-records-requires : tie.Need-put-records-requires
 put-records-requires c κs = search needs
@@ -41,7 +41,7 @@ whole c =
 returns : tie.Need-returns
 returns c =
     let a = c .before .before .before .before .before .before .before .before .before .before .before .before .args in let s = a .book .now in
-    let n = whole (c .before .before .before .before .before .before .before .before .before) in let h = c .before .before .before .before .before .before .put-header in let fits = c .before .before .before .before .before .before .before .before .if1 .taken in
+    let n = whole (c .before .before .before .before .before .before .before .before .before) in let h = c .before .before .before .before .before .before .put-header-line in let fits = c .before .before .before .before .before .before .before .before .if1 .taken in
     let (e, q) = c .before .before .before .before .before .before .before .before .before .before .before .before .pre in let l = header-length s (long-enough s e q) in let h0 = h .ensures .0 in (
       n,
       then (a .out .now) _ _ 0 (h .result) (headerLine s) (recordLines (recordsIn s)) (h .ensures .1) (omega arith) (c .before .before .put-records .ensures)
@@ -57,7 +57,7 @@ print-lines-spec =
     (tie.spec
     lines-length-requires
     add-all
-    put-header-requires
+    put-header-line-requires
     put-records-requires
     same-length
     returns

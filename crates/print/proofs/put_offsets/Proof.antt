@@ -6,7 +6,7 @@ use native.Mathlib.Numerals.{add-one}
 use lib.ListN.{length-set}
 use lib.Seq.{sets}
 use Rattle.values.proofs.Laws.{part-between, between-length}
-use Rattle.book.specs.Reading.{recordOf}
+use Rattle.book.specs.Reading.{recordThere}
 use Rattle.print.specs.Print.{column}
 use Rattle.book.proofs.Places.{fields-length}
 use Rattle.print.proofs.Laws.{offsets-none, offsets-some, length-none, length-some}
@@ -31,7 +31,7 @@ same-length c = search needs
 returns : tie.Need-returns
 returns c = let a = c .before .before .before .args in
     let n = length-none (a .p .count) (c .if1 .taken) in
-    (omega arith, rw (offsets-none (recordOf (a .book .now) (a .p) .fields) (fields-length (a .book .now) (a .p) (c .before .before .before .pre .0) ∙ c .if1 .taken), add-one))
+    (omega arith, rw (offsets-none (recordThere (a .book .now) (a .p) .fields) (fields-length (a .book .now) (a .p) (c .before .before .before .pre .0) ∙ c .if1 .taken), add-one))
 
 add-end : tie.Need-add-end
 add-end c = search needs
@@ -54,7 +54,7 @@ same-length-2 : tie.Need-same-length-2
 same-length-2 c = search needs
 
 returns-2 : tie.Need-returns-2
-returns-2 c = let a = c .before .before .before .before .before .before .before .before .args in let r = c .before .before .put-column in let fields = recordOf (a .book .now) (a .p) .fields in
+returns-2 c = let a = c .before .before .before .before .before .before .before .before .args in let r = c .before .before .put-column in let fields = recordThere (a .book .now) (a .p) .fields in
     let n = length-some (a .p .count) (c .before .before .before .before .before .if1 .left) in
     let l = between-length (a .book .now) (a .p .fields) (a .p .count) (c .before .before .before .before .before .before .before .before .pre .0 .fields) in
     let r0 = r .ensures .0 in (

@@ -4,7 +4,7 @@ use native.Mathlib.Omega.{arith}
 use mathlib.Core.Path.{sym, ap, _∙_}
 use Prim.Native.Nat.{_+_}
 use lib.Seq.{sets}
-use Rattle.book.specs.Reading.{recordOf}
+use Rattle.book.specs.Reading.{recordThere}
 use Rattle.book.proofs.Places.{fields-length, text-length}
 use mathlib.Core.List.{_++_}
 use Rattle.print.specs.Print.{offsetsLength, headColumns, offsets, column}
@@ -13,8 +13,8 @@ use Rattle.values.proofs.Laws.{then}
 use Rattle.print.proofs.put_record.Statement.{statement}
 use Rattle.print.proofs.put_record.Tie as tie
 
-put-head-requires : tie.Need-put-head-requires
-put-head-requires c κs = search needs
+put-head-columns-requires : tie.Need-put-head-columns-requires
+put-head-columns-requires c κs = search needs
 
 put-offsets-requires : tie.Need-put-offsets-requires
 put-offsets-requires c κs = search needs
@@ -28,17 +28,17 @@ same-length c = search needs
 returns : tie.Need-returns
 returns c =
     let a = c .before .before .before .before .before .before .before .before .before .before .before .before .before .before .args in let s = a .book .now in let ok = c .before .before .before .before .before .before .before .before .before .before .before .before .before .before .pre .0 in
-    let h = c .before .before .before .before .before .before .before .before .before .before .put-head in let o = c .before .before .before .before .before .before .put-offsets in let t = c .before .before .put-text in
+    let h = c .before .before .before .before .before .before .before .before .before .before .put-head-columns in let o = c .before .before .before .before .before .before .put-offsets in let t = c .before .before .put-text in
     let h0 = h .ensures .0 in let o0 = o .ensures .0 in let t0 = t .ensures .0 in
     let l = head-length (a .p .count) (a .p .size) (a .p .card) (a .p .address .0) in
-    let n = offsets-length (recordOf s (a .p) .fields) ∙ ap offsetsLength (fields-length s (a .p) ok) in (
+    let n = offsets-length (recordThere s (a .p) .fields) ∙ ap offsetsLength (fields-length s (a .p) ok) in (
       omega arith,
-      then _ _ _ _ _ (headColumns (a .p .count) (a .p .size) (a .p .card) (a .p .address .0)) (offsets (recordOf s (a .p) .fields) ++ column (recordOf s (a .p) .text) 10) (h .ensures .1) (h0 ∙ ap (λ k. a .to + k) (sym l))
-          (then _ _ _ _ _ (offsets (recordOf s (a .p) .fields)) (column (recordOf s (a .p) .text) 10) (o .ensures .1) (o0 ∙ ap (λ k. h .result + k) (sym n)) (t .ensures .1))
-          ∙ ap (λ l. sets (a .m .now) (a .to) l) (sym (line-is (recordOf s (a .p)) (a .p .count) (a .p .size) (fields-length s (a .p) ok) (text-length s (a .p) ok))),
+      then _ _ _ _ _ (headColumns (a .p .count) (a .p .size) (a .p .card) (a .p .address .0)) (offsets (recordThere s (a .p) .fields) ++ column (recordThere s (a .p) .text) 10) (h .ensures .1) (h0 ∙ ap (λ k. a .to + k) (sym l))
+          (then _ _ _ _ _ (offsets (recordThere s (a .p) .fields)) (column (recordThere s (a .p) .text) 10) (o .ensures .1) (o0 ∙ ap (λ k. h .result + k) (sym n)) (t .ensures .1))
+          ∙ ap (λ l. sets (a .m .now) (a .to) l) (sym (line-is (recordThere s (a .p)) (a .p .count) (a .p .size) (fields-length s (a .p) ok) (text-length s (a .p) ok))),
     )
 
 pub put-record-spec : {M : Type 1} → statement M
 put-record-spec =
     tie.close
-    (tie.spec put-head-requires put-offsets-requires put-text-requires same-length returns)
+    (tie.spec put-head-columns-requires put-offsets-requires put-text-requires same-length returns)

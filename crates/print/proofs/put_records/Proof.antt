@@ -3,9 +3,9 @@ use borrow.Author.Needs.{needs}
 use native.Mathlib.Omega.{arith}
 use mathlib.Core.Path.{_≡_, refl, sym, ap, _∙_}
 use Rattle.book.specs.Book.{Record}
-use Rattle.book.specs.Reading.{stepAt, recordOf, recordsIn}
+use Rattle.book.specs.Reading.{stepAt, recordThere, recordsIn}
 use Rattle.book.specs.declared.Step.{Step}
-use Rattle.book.proofs.Turns.{Left, start, onward, first, ended, never, gave}
+use Rattle.book.proofs.Turns.{Left, start, onward, first, no-more, gave}
 use Rattle.print.specs.Print.{recordLine, recordLines, lineLength}
 use lib.ListN.{length, length-append}
 use Prim.Native.Nat.{_+_, _-_, _≤_}
@@ -33,24 +33,6 @@ loop-holds c = let (e, q) = c .before .before .before .pre .0 in rw (c .first .e
 next-requires : tie.Need-next-requires Inv-loop μ-loop
 next-requires c κs = search needs
 
-enum-told : tie.Need-enum-told Inv-loop μ-loop
-enum-told c = search needs
-
-same-length : tie.Need-same-length Inv-loop μ-loop
-same-length c = c .before .before .before .loop .inv .0
-
-returns : tie.Need-returns Inv-loop μ-loop
-returns c = absurd (never _ _ _ _ (c .before .before .before .loop .inv .1) (sym (c .enum-told .given .1) ∙ c .before .before .next .ensures))
-
-enum-told-2 : tie.Need-enum-told-2 Inv-loop μ-loop
-enum-told-2 c = search needs
-
-same-length-2 : tie.Need-same-length-2 Inv-loop μ-loop
-same-length-2 c = c .before .before .before .loop .inv .0
-
-returns-2 : tie.Need-returns-2 Inv-loop μ-loop
-returns-2 c = let l = c .before .before .before .loop in let (e, fits) = ended _ _ _ _ (l .inv .1) (sym (c .enum-told2 .given .1) ∙ c .before .before .next .ensures) in sym (e ∙ ap (λ vs. sets (l .m) (l .at) vs) lines-none)
-
 enum-known-p : tie.Need-enum-known-p Inv-loop μ-loop
 enum-known-p c = search needs
 
@@ -58,15 +40,15 @@ enum-known-p c = search needs
 read : (c : tie.After-p Inv-loop μ-loop) → Step.Record (c .p .given .0 .0) (c .p .given .0 .1 .0) ≡ stepAt (c .before .before .before .before .before .before .before .args .book .now) (c .before .before .before .loop .cursor .at) (c .before .before .before .loop .cursor .card)
 read c = sym (c .p .given .1) ∙ c .before .before .next .ensures
 
-line : (c : tie.After-p Inv-loop μ-loop) → length (recordLine (recordOf (c .before .before .before .before .before .before .before .args .book .now) (c .p .given .0 .0))) ≡ lineLength (c .p .given .0 .0 .count) (c .p .given .0 .0 .size)
+line : (c : tie.After-p Inv-loop μ-loop) → length (recordLine (recordThere (c .before .before .before .before .before .before .before .args .book .now) (c .p .given .0 .0))) ≡ lineLength (c .p .given .0 .0 .count) (c .p .given .0 .0 .size)
 line c =
     let s = c .before .before .before .before .before .before .before .args .book .now in let p = c .p .given .0 .0 in let ok = gave _ _ _ _ _ (read c) .sound in
-    line-length (recordOf s p) (p .count) (p .size) (fields-length s p ok) (text-length s p ok)
+    line-length (recordThere s p) (p .count) (p .size) (fields-length s p ok) (text-length s p ok)
 
 -- its line lies inside m
 fits : (c : tie.After-p Inv-loop μ-loop) → c .before .before .before .loop .at + lineLength (c .p .given .0 .0 .count) (c .p .given .0 .0 .size) ≤ length (c .before .before .before .loop .m)
 fits c =
-    let l = c .before .before .before .loop in let r = recordOf (c .before .before .before .before .before .before .before .args .book .now) (c .p .given .0 .0) in
+    let l = c .before .before .before .loop in let r = recordThere (c .before .before .before .before .before .before .before .args .book .now) (c .p .given .0 .0) in
     let (rest, h) = first _ _ _ _ (l .inv .1) _ _ (read c) in
     let room = h .1 in
     let n = line c in
@@ -83,7 +65,7 @@ loop-less c = let g = gave _ _ _ _ _ (read (c .before .before .before .before .b
 
 loop-again : tie.Need-loop-again Inv-loop μ-loop
 loop-again c =
-    let a = c .before .before .before .before .before .before .before .before .before .before .before .before .args in let l = c .before .before .before .before .before .before .before .before .loop in let w = c .before .before .put-record in let p = c .before .before .before .before .before .p .given .0 .0 in let r = recordOf (a .book .now) p in
+    let a = c .before .before .before .before .before .before .before .before .before .before .before .before .args in let l = c .before .before .before .before .before .before .before .before .loop in let w = c .before .before .put-record in let p = c .before .before .before .before .before .p .given .0 .0 in let r = recordThere (a .book .now) p in
     let n = line (c .before .before .before .before .before) in
     let (to, is) = w .ensures in
     let there : w .result ≡ l .at + length (recordLine r) = omega arith in (
@@ -98,6 +80,12 @@ loop-again c =
           )),
     )
 
+same-length : tie.Need-same-length Inv-loop μ-loop
+same-length c = c .before .before .loop .inv .0
+
+returns : tie.Need-returns Inv-loop μ-loop
+returns c = let l = c .before .before .loop in let (e, fits) = no-more _ _ _ _ (l .inv .1) _ (c .match .keys2) (c .before .next .ensures) in sym (e ∙ ap (λ vs. sets (l .m) (l .at) vs) lines-none)
+
 pub put-records-spec : {M : Type 1} → statement M
 put-records-spec =
     tie.close
@@ -107,13 +95,9 @@ put-records-spec =
     first-requires
     loop-holds
     next-requires
-    enum-told
-    same-length
-    returns
-    enum-told-2
-    same-length-2
-    returns-2
     enum-known-p
     put-record-requires
     loop-less
-    loop-again)
+    loop-again
+    same-length
+    returns)

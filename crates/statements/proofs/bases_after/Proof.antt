@@ -1,4 +1,4 @@
--- `bases_after` meets its contract, by what its calls answer.
+-- `bases_after` meets its contract, case by case.
 use borrow.Author.Needs.{needs}
 use Rattle.statements.proofs.bases_after.Statement.{statement}
 use Rattle.statements.proofs.bases_after.Tie as tie

@@ -1,4 +1,13 @@
 -- `jump_of` meets its contract, case by case.
+use mathlib.Core.List.{[], _∷_}
+use mathlib.Core.Path.{_≡_, refl}
+use types.Run.{OneOf, miss}
+use denote.Enum.Declared.{tagOf}
+use Rattle.operations.specs.declared.traits.Use.{Use}
+use Rattle.operations.proofs.traits.Use.{the-type}
+use Rattle.places.specs.declared.codes.Code.{Code}
+use Rattle.statements.specs.declared.Statement.{Statement}
+use Rattle.statements.specs.Statements.{jumpOf}
 use borrow.Author.Needs.{needs}
 use Rattle.statements.proofs.jump_of.Statement.{statement}
 use Rattle.statements.proofs.jump_of.Tie as tie
@@ -6,36 +15,19 @@ use Rattle.statements.proofs.jump_of.Tie as tie
 enum-told : tie.Need-enum-told
 enum-told c = search needs
 
-jump-code-requires : tie.Need-jump-code-requires
-jump-code-requires c κs = search needs
-
-code-byte-requires : tie.Need-code-byte-requires
-code-byte-requires c κs = search needs
-
-enum-told-2 : tie.Need-enum-told-2
-enum-told-2 c = search needs
-
-enum-told-3 : tie.Need-enum-told-3
-enum-told-3 c = search needs
+jump-with-requires : tie.Need-jump-with-requires
+jump-with-requires c κs = search needs
 
 returns : tie.Need-returns
-returns c = rw (c .code-byte .ensures, c .before .jump-code .ensures, c .before .before .enum-told .given .1)
+returns c = rw (c .jump-with .ensures, c .before .enum-told .given .1)
+
+others : (u : Use) (code reach : Code) → OneOf (1 ∷ 2 ∷ []) (tagOf the-type u) → Statement.None ≡ jumpOf u code reach
+others Use.Jumps code reach k = absurd (miss (1 ∷ 2 ∷ []) 0 tt k)
+others Use.Registers code reach k = refl
+others Use.Nothing code reach k = refl
 
 returns-2 : tie.Need-returns-2
-returns-2 c = search needs
-
-returns-3 : tie.Need-returns-3
-returns-3 c = search needs
+returns-2 c = others (c .before .args .u) (c .before .args .code) (c .before .args .reach) (c .match .keys2)
 
 pub jump-of-spec : {M : Type 1} → statement M
-jump-of-spec =
-    tie.close
-    (tie.spec
-    enum-told
-    jump-code-requires
-    code-byte-requires
-    enum-told-2
-    enum-told-3
-    returns
-    returns-2
-    returns-3)
+jump-of-spec = tie.close (tie.spec enum-told jump-with-requires returns returns-2)

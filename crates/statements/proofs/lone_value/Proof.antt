@@ -1,19 +1,15 @@
 -- `lone_value` meets its contract, case by case.
+use mathlib.Core.List.{[], _∷_}
+use mathlib.Core.Path.{_≡_, refl}
+use types.Run.{OneOf, miss}
+use denote.Enum.Declared.{tagOf}
+use Rattle.operands.specs.declared.Operands.{Operands}
+use Rattle.operands.proofs.Operands.{the-type}
+use Rattle.values.specs.declared.MaybeValue.{MaybeValue}
+use Rattle.statements.specs.Statements.{loneValue}
 use borrow.Author.Needs.{needs}
 use Rattle.statements.proofs.lone_value.Statement.{statement}
 use Rattle.statements.proofs.lone_value.Tie as tie
-
-enum-told : tie.Need-enum-told
-enum-told c = search needs
-
-enum-told-2 : tie.Need-enum-told-2
-enum-told-2 c = search needs
-
-enum-told-3 : tie.Need-enum-told-3
-enum-told-3 c = search needs
-
-enum-told-4 : tie.Need-enum-told-4
-enum-told-4 c = search needs
 
 enum-known-x : tie.Need-enum-known-x
 enum-known-x c = search needs
@@ -21,49 +17,20 @@ enum-known-x c = search needs
 value-in-requires : tie.Need-value-in-requires
 value-in-requires c κs = search needs
 
-enum-told-5 : tie.Need-enum-told-5
-enum-told-5 c = search needs
-
-enum-told-6 : tie.Need-enum-told-6
-enum-told-6 c = search needs
-
 returns : tie.Need-returns
-returns c = rw (c .enum-told .given .1)
+returns c = search needs
+
+others : (x : Operands) → OneOf (0 ∷ 1 ∷ 2 ∷ 3 ∷ 5 ∷ 6 ∷ []) (tagOf the-type x) → MaybeValue.Nothing ≡ loneValue x
+others (Operands.TwoAddresses a b) k = refl
+others (Operands.AddressAndCode a q) k = refl
+others (Operands.LoneAddress a) k = refl
+others (Operands.Pair e q) k = refl
+others (Operands.Lone e) k = absurd (miss (0 ∷ 1 ∷ 2 ∷ 3 ∷ 5 ∷ 6 ∷ []) 4 tt k)
+others (Operands.AddressConstants n m e) k = refl
+others Operands.None k = refl
 
 returns-2 : tie.Need-returns-2
-returns-2 c = rw (c .enum-told2 .given .1)
-
-returns-3 : tie.Need-returns-3
-returns-3 c = rw (c .enum-told3 .given .1)
-
-returns-4 : tie.Need-returns-4
-returns-4 c = rw (c .enum-told4 .given .1)
-
-returns-5 : tie.Need-returns-5
-returns-5 c = search needs
-
-returns-6 : tie.Need-returns-6
-returns-6 c = rw (c .enum-told5 .given .1)
-
-returns-7 : tie.Need-returns-7
-returns-7 c = rw (c .enum-told6 .given .1)
+returns-2 c = others (c .before .args .x) (c .match .keys2)
 
 pub lone-value-spec : {M : Type 1} → statement M
-lone-value-spec =
-    tie.close
-    (tie.spec
-    enum-told
-    enum-told-2
-    enum-told-3
-    enum-told-4
-    enum-known-x
-    value-in-requires
-    enum-told-5
-    enum-told-6
-    returns
-    returns-2
-    returns-3
-    returns-4
-    returns-5
-    returns-6
-    returns-7)
+lone-value-spec = tie.close (tie.spec enum-known-x value-in-requires returns returns-2)

@@ -5,7 +5,7 @@ use mathlib.Core.Path.{_≡_, sym, _∙_}
 use borrow.Author.Tests.{not-true, not-false}
 use Rattle.values.specs.Words.{part}
 use mathlib.Core.Bool.{true}
-use Rattle.book.specs.Book.{fieldsFit, restAt, countAt, sizeAt, recordOk}
+use Rattle.book.specs.Book.{fieldsFit, recordHead, restAt, countAt, sizeAt, recordOk}
 use Rattle.book.proofs.Laws.{step-end, step-broken, step-found, no-head, no-rest, no-text, too-long, no-rise, no-card, too-high, no-fields, all-passed, fields-lent}
 use borrow.Author.Needs.{needs}
 use Rattle.book.proofs.Cursor.next.Statement.{statement}
@@ -111,7 +111,7 @@ fields-fit-requires : tie.Need-fields-fit-requires
 fields-fit-requires c κs = search needs
 
 -- the size and the offsets are those of the record
-fit : (c : tie.After-fields-fit) → c .fields-fit .result ≡ fieldsFit 0 (sizeAt (c .before .before .before .before .before .before .before .before .before .before .before .before .before .before .before .before .before .before .before .args .book .now) (c .before .before .before .before .before .before .before .before .before .before .before .before .before .before .before .before .before .before .before .args .self .at)) (part (c .before .before .before .before .before .before .before .before .before .before .before .before .before .before .before .before .before .before .before .args .book .now) (c .before .before .before .before .before .before .before .before .before .before .before .before .before .before .before .before .before .before .before .args .self .at + 7) (countAt (c .before .before .before .before .before .before .before .before .before .before .before .before .before .before .before .before .before .before .before .args .book .now) (c .before .before .before .before .before .before .before .before .before .before .before .before .before .before .before .before .before .before .before .args .self .at)))
+fit : (c : tie.After-fields-fit) → c .fields-fit .result ≡ fieldsFit 0 (sizeAt (c .before .before .before .before .before .before .before .before .before .before .before .before .before .before .before .before .before .before .before .args .book .now) (c .before .before .before .before .before .before .before .before .before .before .before .before .before .before .before .before .before .before .before .args .self .at)) (part (c .before .before .before .before .before .before .before .before .before .before .before .before .before .before .before .before .before .before .before .args .book .now) (c .before .before .before .before .before .before .before .before .before .before .before .before .before .before .before .before .before .before .before .args .self .at + recordHead) (countAt (c .before .before .before .before .before .before .before .before .before .before .before .before .before .before .before .before .before .before .before .args .book .now) (c .before .before .before .before .before .before .before .before .before .before .before .before .before .before .before .before .before .before .before .args .self .at)))
 fit c = c .fields-fit .ensures ∙ fields-lent (c .before .before .before .before .before .before .before .before .before .before .before .before .before .before .before .before .before .before .before .args .book .now) (c .before .before .before .before .before .before .before .before .before .before .before .before .before .before .before .before .before .before .before .args .self .at) (c .before .before .before .before .before .before .before .before .before .before .before .before .before .before .before .before .before .before .before .args .self .card) _ _ (rest (c .before .before .before .before .before .before .before .before .before .before .before .before .before)) (c .before .before .before .before .before .before .before .before .before .before .wide .ensures .0)
 
 whole : (c : tie.Else10) → recordOk (c .before .before .before .before .before .before .before .before .before .before .before .before .before .before .before .before .before .before .before .before .args .book .now) (c .before .before .before .before .before .before .before .before .before .before .before .before .before .before .before .before .before .before .before .before .args .self .at) (c .before .before .before .before .before .before .before .before .before .before .before .before .before .before .before .before .before .before .before .before .args .self .card) ≡ true

@@ -9,7 +9,9 @@ use lib.ListN.{length, getD}
 use Rattle.data.specs.Runs.{digitsEndFrom, digitsEnd}
 use Rattle.letters.specs.Letters.{digitOf}
 use Rattle.terms.specs.Terms.{digitAt}
-use Rattle.data.proofs.Turns.{digit-inside, digits-more, digits-stop}
+use Rattle.data.proofs.Turns.{digit-inside, digits-more}
+use Rattle.letters.proofs.Runs.{run-stop}
+use lib.Dec.{ltb}
 use Rattle.data.proofs.runs.digits_end.Statement.{statement}
 use Rattle.data.proofs.runs.digits_end.Tie as tie
 
@@ -46,7 +48,7 @@ loop-again : tie.Need-loop-again Inv-loop μ-loop
 loop-again c = let (n, w, e) = c .before .before .before .loop .inv in let i = digit-inside (c .before .before .before .before .before .args .base) (c .before .before .before .before .before .args .s .now) (c .before .before .before .loop .i) (c .before .before .before .before .before .pre) (there c) in (n - 1, omega arith, sym (digits-more n (c .before .before .before .before .before .args .base) (c .before .before .before .before .before .args .s .now) (c .before .before .before .loop .i) (c .before .before .before .before .before .pre) w (there c)) ∙ e)
 
 returns : tie.Need-returns Inv-loop μ-loop
-returns c = let (n, w, e) = c .before .before .before .loop .inv in sym (digits-stop n (c .before .before .before .before .before .args .base) (c .before .before .before .before .before .args .s .now) (c .before .before .before .loop .i) (le-ltb _ _ (rw (digit (c .before)) at (c .if1 .left)))) ∙ e
+returns c = let (n, w, e) = c .before .before .before .loop .inv in sym (run-stop (λ d. ltb (digitOf d) (c .before .before .before .before .before .args .base)) n (c .before .before .before .before .before .args .s .now) (c .before .before .before .loop .i) (le-ltb _ _ (rw (digit (c .before)) at (c .if1 .left)))) ∙ e
 
 pub digits-end-spec : {M : Type 1} → statement M
 digits-end-spec =

@@ -15,8 +15,8 @@ enum-known-t-2 c = search needs
 look-up-requires : tie.Need-look-up-requires
 look-up-requires c κs = search needs
 
-entry-factor-requires : tie.Need-entry-factor-requires
-entry-factor-requires c κs = search needs
+meaning-factor-requires : tie.Need-meaning-factor-requires
+meaning-factor-requires c κs = search needs
 
 enum-told : tie.Need-enum-told
 enum-told c = search needs
@@ -28,7 +28,7 @@ returns : tie.Need-returns
 returns c = rw (c .before .t .given .1)
 
 returns-2 : tie.Need-returns-2
-returns-2 c = rw (c .before .before .before .t2 .given .1, ← c .before .look-up .ensures) (c .entry-factor .ensures)
+returns-2 c = rw (c .before .before .before .t2 .given .1, ← c .before .look-up .ensures) (c .meaning-factor .ensures)
 
 returns-3 : tie.Need-returns-3
 returns-3 c = rw (c .enum-told .given .1)
@@ -44,7 +44,7 @@ factor-of-spec =
     cast-t8
     enum-known-t-2
     look-up-requires
-    entry-factor-requires
+    meaning-factor-requires
     enum-told
     enum-told-2
     returns

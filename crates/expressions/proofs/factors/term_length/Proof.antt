@@ -12,8 +12,8 @@ enum-known-t c = search needs
 look-up-requires : tie.Need-look-up-requires
 look-up-requires c κs = search needs
 
-entry-length-requires : tie.Need-entry-length-requires
-entry-length-requires c κs = search needs
+meaning-length-requires : tie.Need-meaning-length-requires
+meaning-length-requires c κs = search needs
 
 enum-told-2 : tie.Need-enum-told-2
 enum-told-2 c = search needs
@@ -25,7 +25,7 @@ returns : tie.Need-returns
 returns c = search needs
 
 returns-2 : tie.Need-returns-2
-returns-2 c = rw (c .before .before .before .t .given .1, ← c .before .look-up .ensures) (c .entry-length .ensures)
+returns-2 c = rw (c .before .before .before .t .given .1, ← c .before .look-up .ensures) (c .meaning-length .ensures)
 
 returns-3 : tie.Need-returns-3
 returns-3 c = search needs
@@ -40,7 +40,7 @@ term-length-spec =
     enum-told
     enum-known-t
     look-up-requires
-    entry-length-requires
+    meaning-length-requires
     enum-told-2
     enum-told-3
     returns

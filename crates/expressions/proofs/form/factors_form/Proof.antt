@@ -5,9 +5,10 @@ use Prim.Native.Nat.{_+_, _-_, _*_}
 use mathlib.Core.Path.{_≡_, refl, _∙_, sym, ap}
 use lib.ListN.{length}
 use mathlib.Core.Bool.{true}
+use Rattle.letters.specs.Text.{stands}
 use Rattle.letters.proofs.Laws.{is-byte, no-byte}
 use Rattle.terms.proofs.Within.{stands-inside}
-use Rattle.terms.specs.Terms.{stands, termAt}
+use Rattle.terms.specs.Terms.{termAt}
 use Rattle.expressions.specs.Form.{formOf, endOf, factorsAt}
 use Rattle.expressions.proofs.Reading.{end-within, form-factors, factors-fail, factors-stop}
 use Rattle.expressions.proofs.form.factors_form.Statement.{statement}

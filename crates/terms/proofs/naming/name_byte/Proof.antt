@@ -1,5 +1,4 @@
 -- `naming::name_byte` meets its contract.
-use native.Mathlib.Omega.{arith}
 use mathlib.Core.Path.{ap, _∙_}
 use borrow.Author.Tests.{lt-ltb, le-ltb}
 use Rattle.terms.specs.Names.{nameByte}
@@ -20,16 +19,19 @@ byte-at-requires c κs = search needs
 code-of-requires : tie.Need-code-of-requires
 code-of-requires c κs = search needs
 
-wide-requires : tie.Need-wide-requires
-wide-requires c κs = search needs
+wide64-requires : tie.Need-wide64-requires
+wide64-requires c κs = search needs
+
+wide64-requires-2 : tie.Need-wide64-requires-2
+wide64-requires-2 c κs = search needs
 
 returns : tie.Need-returns
 unfolding nameByte
-returns c = (rw (lt-ltb _ _ (c .before .before .before .if1 .taken)) (c .wide .ensures .0 ∙ c .before .code-of .ensures ∙ ap codeOf (c .before .before .byte-at .ensures)), c .wide .ensures .1)
+returns c = (rw (lt-ltb _ _ (c .before .before .before .if1 .taken)) (c .wide64 .ensures .0 ∙ c .before .code-of .ensures ∙ ap codeOf (c .before .before .byte-at .ensures)), c .wide64 .ensures .1)
 
 returns-2 : tie.Need-returns-2
 unfolding nameByte
-returns-2 c = (simp (le-ltb _ _ (c .if1 .left)), omega arith)
+returns-2 c = (rw (le-ltb _ _ (c .before .if1 .left)) (c .wide642 .ensures .0), c .wide642 .ensures .1)
 
 pub name-byte-spec : {M : Type 1} → statement M
 name-byte-spec =
@@ -39,6 +41,7 @@ name-byte-spec =
     add-byte-at
     byte-at-requires
     code-of-requires
-    wide-requires
+    wide64-requires
+    wide64-requires-2
     returns
     returns-2)

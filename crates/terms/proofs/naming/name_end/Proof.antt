@@ -8,9 +8,17 @@ use lib.ListN.{length}
 use borrow.Author.Needs.{needs}
 use Rattle.terms.specs.Names.{goesOnAt, nameEnd}
 use Rattle.letters.specs.Letters.{goesOnName}
-use Rattle.terms.proofs.Laws.{end-more, end-stop, end-none, inside-name}
+use Rattle.terms.proofs.Laws.{inside-name}
+use Rattle.letters.proofs.Runs.{run-more, run-stop, run-none}
+use Rattle.letters.specs.Letters.{classOf}
+use mathlib.Core.Bool.{Bool}
+use Prim.Native.Nat.{ℕ}
 use Rattle.terms.proofs.naming.name_end.Statement.{statement}
 use Rattle.terms.proofs.naming.name_end.Tie as tie
+
+-- a byte that goes on a name
+abbrev goesOn : ℕ → Bool
+goesOn b = goesOnName (classOf b)
 
 abbrev Inv-loop : tie.InvT-loop
 Inv-loop s at i₀ left₀ i left = (nameEnd left s i ≡ nameEnd 6 s at) × (at ≤ i) × (i ≤ length s)
@@ -32,7 +40,7 @@ going : (c : tie.After-goes-on-name Inv-loop μ-loop) → c .goes-on-name .resul
 going c = c .goes-on-name .ensures ∙ ap goesOnName (c .before .class-at .ensures)
 
 returns : tie.Need-returns Inv-loop μ-loop
-returns c = (sym (end-stop (c .before .before .before .before .loop .left) (c .before .before .before .before .before .before .args .s .now) (c .before .before .before .before .loop .i) (sym (going (c .before)) ∙ not-true _ (c .if1 .taken))) ∙ c .before .before .before .before .loop .inv .0, omega arith, omega arith)
+returns c = (sym (run-stop goesOn (c .before .before .before .before .loop .left) (c .before .before .before .before .before .before .args .s .now) (c .before .before .before .before .loop .i) (sym (going (c .before)) ∙ not-true _ (c .if1 .taken))) ∙ c .before .before .before .before .loop .inv .0, omega arith, omega arith)
 
 add-i : tie.Need-add-i Inv-loop μ-loop
 add-i c = omega (arith, inside-name (c .before .before .before .before .before .before .args .s .now) (c .before .before .before .before .loop .i) (sym (going (c .before)) ∙ not-false _ (c .if1 .left)))
@@ -46,10 +54,10 @@ loop-less c = omega arith
 loop-again : tie.Need-loop-again Inv-loop μ-loop
 loop-again c = let on : goesOnAt (c .before .before .before .before .before .before .args .s .now) (c .before .before .before .before .loop .i) ≡ true = sym (going (c .before)) ∙ not-false _ (c .if1 .left) in
     let within = inside-name (c .before .before .before .before .before .before .args .s .now) (c .before .before .before .before .loop .i) on in
-    (sym (end-more (c .before .before .before .before .loop .left) (c .before .before .before .before .before .before .args .s .now) (c .before .before .before .before .loop .i) (c .before .before .before .loop-test .taken) on) ∙ c .before .before .before .before .loop .inv .0, omega arith, omega arith)
+    (sym (run-more goesOn (c .before .before .before .before .loop .left) (c .before .before .before .before .before .before .args .s .now) (c .before .before .before .before .loop .i) (c .before .before .before .loop-test .taken) on) ∙ c .before .before .before .before .loop .inv .0, omega arith, omega arith)
 
 returns-2 : tie.Need-returns-2 Inv-loop μ-loop
-returns-2 c = (sym (end-none (c .before .loop .left) (c .before .before .before .args .s .now) (c .before .loop .i) (omega arith)) ∙ c .before .loop .inv .0, omega arith, omega arith)
+returns-2 c = (sym (run-none goesOn (c .before .loop .left) (c .before .before .before .args .s .now) (c .before .loop .i) (omega arith)) ∙ c .before .loop .inv .0, omega arith, omega arith)
 
 pub name-end-spec : {M : Type 1} → statement M
 name-end-spec =

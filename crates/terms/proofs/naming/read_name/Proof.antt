@@ -2,7 +2,7 @@
 use native.Mathlib.Omega.{arith}
 use mathlib.Core.Path.{_≡_, sym, ap, _∙_}
 use borrow.Author.Tests.{not-true, not-false}
-use Rattle.terms.specs.declared.naming.Name.the-variants.{Named}
+use Rattle.terms.specs.declared.naming.NameRead.the-variants.{Named}
 use Rattle.terms.specs.Names.{startsAt, goesOnAt, nameAt}
 use Rattle.letters.specs.Letters.{startsName, goesOnName}
 use Rattle.terms.proofs.Laws.{inside-start}

@@ -1,0 +1,2 @@
+-- Laws of addresses.
+pub mod Laws

@@ -1,0 +1,37 @@
+-- `address_at` meets its contract: the expression's form, and what stands behind it.
+use mathlib.Core.Path.{sym}
+use Rattle.addresses.specs.Address.{addressAt}
+use borrow.Author.Needs.{needs}
+use Rattle.addresses.proofs.address_at.Statement.{statement}
+use Rattle.addresses.proofs.address_at.Tie as tie
+
+expression-form-requires : tie.Need-expression-form-requires
+expression-form-requires c κs = search needs
+
+enum-known-q : tie.Need-enum-known-q
+enum-known-q c = search needs
+
+enum-known-q-2 : tie.Need-enum-known-q-2
+enum-known-q-2 c = search needs
+
+behind-address-requires : tie.Need-behind-address-requires
+behind-address-requires c κs = search needs
+
+returns : tie.Need-returns
+unfolding addressAt
+returns c = rw (sym (c .before .before .before .expression-form .ensures), c .before .q .given .1)
+
+returns-2 : tie.Need-returns-2
+unfolding addressAt
+returns-2 c = rw (sym (c .before .before .before .before .expression-form .ensures), c .before .before .q2 .given .1) (c .behind-address .ensures)
+
+pub address-at-spec : {M : Type 1} → statement M
+address-at-spec =
+    tie.close
+    (tie.spec
+    expression-form-requires
+    enum-known-q
+    enum-known-q-2
+    behind-address-requires
+    returns
+    returns-2)

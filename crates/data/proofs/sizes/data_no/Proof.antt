@@ -1,0 +1,29 @@
+-- `sizes::data_no` meets its contract.
+use mathlib.Core.Path.{sym, ap, _∙_}
+use Rattle.data.specs.Sizes.{dataNoBy}
+use borrow.Author.Needs.{needs}
+use Rattle.data.proofs.sizes.data_no.Statement.{statement}
+use Rattle.data.proofs.sizes.data_no.Tie as tie
+
+enum-told : tie.Need-enum-told
+enum-told c = search needs
+
+constant-no-requires : tie.Need-constant-no-requires
+constant-no-requires c κs = search needs
+
+enum-told-2 : tie.Need-enum-told-2
+enum-told-2 c = search needs
+
+reserve-no-requires : tie.Need-reserve-no-requires
+reserve-no-requires c κs = search needs
+
+returns : tie.Need-returns
+returns c = c .constant-no .ensures ∙ ap (λ k. dataNoBy k (c .before .before .before .args .d)) (sym (c .before .enum-told .given .1))
+
+returns-2 : tie.Need-returns-2
+returns-2 c = c .reserve-no .ensures ∙ ap (λ k. dataNoBy k (c .before .before .before .args .d)) (sym (c .before .enum-told2 .given .1))
+
+pub data-no-spec : {M : Type 1} → statement M
+data-no-spec =
+    tie.close
+    (tie.spec enum-told constant-no-requires enum-told-2 reserve-no-requires returns returns-2)

@@ -1,0 +1,122 @@
+-- `places_no` meets its contract, case by case.
+use mathlib.Core.List.{[], _∷_}
+use mathlib.Core.Path.{_≡_, refl}
+use types.Run.{OneOf, miss}
+use denote.Enum.Declared.{tagOf}
+use Rattle.operands.specs.declared.Operands.{Operands}
+use Rattle.operands.proofs.Operands.{the-type}
+use Prim.Native.Nat.{ℕ}
+use Rattle.operations.specs.declared.traits.Use.{Use}
+use Rattle.places.specs.declared.Bases.{Bases}
+use Rattle.places.specs.Places.{placesNo}
+use borrow.Author.Needs.{needs}
+use Rattle.places.proofs.places_no.Statement.{statement}
+use Rattle.places.proofs.places_no.Tie as tie
+
+enum-known-x : tie.Need-enum-known-x
+enum-known-x c = search needs
+
+operand-of-requires : tie.Need-operand-of-requires
+operand-of-requires c κs = search needs
+
+placed-no-requires : tie.Need-placed-no-requires
+placed-no-requires c κs = search needs
+
+operand-of-requires-2 : tie.Need-operand-of-requires-2
+operand-of-requires-2 c κs = search needs
+
+placed-no-requires-2 : tie.Need-placed-no-requires-2
+placed-no-requires-2 c κs = search needs
+
+lower-of-requires : tie.Need-lower-of-requires
+lower-of-requires c κs = search needs
+
+enum-known-x-2 : tie.Need-enum-known-x-2
+enum-known-x-2 c = search needs
+
+operand-of-requires-3 : tie.Need-operand-of-requires-3
+operand-of-requires-3 c κs = search needs
+
+placed-no-requires-3 : tie.Need-placed-no-requires-3
+placed-no-requires-3 c κs = search needs
+
+enum-known-x-3 : tie.Need-enum-known-x-3
+enum-known-x-3 c = search needs
+
+operand-of-requires-4 : tie.Need-operand-of-requires-4
+operand-of-requires-4 c κs = search needs
+
+placed-no-requires-4 : tie.Need-placed-no-requires-4
+placed-no-requires-4 c κs = search needs
+
+enum-known-x-4 : tie.Need-enum-known-x-4
+enum-known-x-4 c = search needs
+
+use-no-requires : tie.Need-use-no-requires
+use-no-requires c κs = search needs
+
+enum-known-x-5 : tie.Need-enum-known-x-5
+enum-known-x-5 c = search needs
+
+use-no-requires-2 : tie.Need-use-no-requires-2
+use-no-requires-2 c κs = search needs
+
+returns : tie.Need-returns
+unfolding placesNo
+returns c = rw (c .lower-of .ensures, c .before .placed-no2 .ensures, c .before .before .operand-of2 .ensures, c .before .before .before .placed-no .ensures, c .before .before .before .before .operand-of .ensures, c .before .before .before .before .before .before .x .given .1)
+
+returns-2 : tie.Need-returns-2
+unfolding placesNo
+returns-2 c = rw (c .placed-no3 .ensures, c .before .operand-of3 .ensures, c .before .before .before .x2 .given .1)
+
+returns-3 : tie.Need-returns-3
+unfolding placesNo
+returns-3 c = rw (c .placed-no4 .ensures, c .before .operand-of4 .ensures, c .before .before .before .x3 .given .1)
+
+returns-4 : tie.Need-returns-4
+unfolding placesNo
+returns-4 c = rw (c .use-no .ensures, c .before .before .x4 .given .1)
+
+returns-5 : tie.Need-returns-5
+unfolding placesNo
+returns-5 c = rw (c .use-no2 .ensures, c .before .before .x5 .given .1)
+
+others : (u : Use) (x : Operands) (next : ℕ) (bases : Bases) → OneOf (5 ∷ 6 ∷ []) (tagOf the-type x) → 0 ≡ placesNo u x next bases
+unfolding placesNo
+others u (Operands.TwoAddresses a b) next bases k = absurd (miss (5 ∷ 6 ∷ []) 0 tt k)
+others u (Operands.AddressAndCode a q) next bases k = absurd (miss (5 ∷ 6 ∷ []) 1 tt k)
+others u (Operands.LoneAddress a) next bases k = absurd (miss (5 ∷ 6 ∷ []) 2 tt k)
+others u (Operands.Pair e q) next bases k = absurd (miss (5 ∷ 6 ∷ []) 3 tt k)
+others u (Operands.Lone e) next bases k = absurd (miss (5 ∷ 6 ∷ []) 4 tt k)
+others u (Operands.AddressConstants n m e) next bases k = refl
+others u Operands.None next bases k = refl
+
+returns-6 : tie.Need-returns-6
+returns-6 c = others (c .before .args .u) (c .before .args .x) (c .before .args .next) (c .before .args .bases) (c .match .keys6)
+
+pub places-no-spec : {M : Type 1} → statement M
+places-no-spec =
+    tie.close
+    (tie.spec
+    enum-known-x
+    operand-of-requires
+    placed-no-requires
+    operand-of-requires-2
+    placed-no-requires-2
+    lower-of-requires
+    enum-known-x-2
+    operand-of-requires-3
+    placed-no-requires-3
+    enum-known-x-3
+    operand-of-requires-4
+    placed-no-requires-4
+    enum-known-x-4
+    use-no-requires
+    enum-known-x-5
+    use-no-requires-2
+    returns
+    returns-2
+    returns-3
+    returns-4
+    returns-5
+    returns-6)

@@ -1,0 +1,66 @@
+-- `registered` meets its contract, case by case.
+use mathlib.Core.List.{[], _∷_}
+use mathlib.Core.Path.{_≡_, refl}
+use types.Run.{OneOf, miss}
+use denote.Enum.Declared.{tagOf}
+use Rattle.operands.specs.declared.Operands.{Operands}
+use Rattle.operands.proofs.Operands.{the-type}
+use Rattle.places.specs.declared.Bases.{Bases}
+use Rattle.places.specs.Places.{registeredBy}
+use borrow.Author.Needs.{needs}
+use Rattle.places.proofs.registered.Statement.{statement}
+use Rattle.places.proofs.registered.Tie as tie
+
+enum-known-x : tie.Need-enum-known-x
+enum-known-x c = search needs
+
+absolute-in-requires : tie.Need-absolute-in-requires
+absolute-in-requires c κs = search needs
+
+value-in-requires : tie.Need-value-in-requires
+value-in-requires c κs = search needs
+
+using-base-requires : tie.Need-using-base-requires
+using-base-requires c κs = search needs
+
+enum-known-x-2 : tie.Need-enum-known-x-2
+enum-known-x-2 c = search needs
+
+absolute-in-requires-2 : tie.Need-absolute-in-requires-2
+absolute-in-requires-2 c κs = search needs
+
+drop-base-requires : tie.Need-drop-base-requires
+drop-base-requires c κs = search needs
+
+returns : tie.Need-returns
+returns c = rw (c .using-base .ensures, c .before .value-in .ensures, c .before .before .absolute-in .ensures, c .before .before .before .before .x .given .1)
+
+returns-2 : tie.Need-returns-2
+returns-2 c = rw (c .drop-base .ensures, c .before .absolute-in2 .ensures, c .before .before .before .x2 .given .1)
+
+others : (x : Operands) (bases : Bases) → OneOf (0 ∷ 1 ∷ 2 ∷ 5 ∷ 6 ∷ []) (tagOf the-type x) → bases ≡ registeredBy x bases
+others (Operands.TwoAddresses a b) bases k = refl
+others (Operands.AddressAndCode a q) bases k = refl
+others (Operands.LoneAddress a) bases k = refl
+others (Operands.Pair e q) bases k = absurd (miss (0 ∷ 1 ∷ 2 ∷ 5 ∷ 6 ∷ []) 3 tt k)
+others (Operands.Lone e) bases k = absurd (miss (0 ∷ 1 ∷ 2 ∷ 5 ∷ 6 ∷ []) 4 tt k)
+others (Operands.AddressConstants n m e) bases k = refl
+others Operands.None bases k = refl
+
+returns-3 : tie.Need-returns-3
+returns-3 c = others (c .before .args .x) (c .before .args .bases) (c .match .keys3)
+
+pub registered-spec : {M : Type 1} → statement M
+registered-spec =
+    tie.close
+    (tie.spec
+    enum-known-x
+    absolute-in-requires
+    value-in-requires
+    using-base-requires
+    enum-known-x-2
+    absolute-in-requires-2
+    drop-base-requires
+    returns
+    returns-2
+    returns-3)
