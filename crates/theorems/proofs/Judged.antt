@@ -14,11 +14,10 @@ use Rattle.book.specs.Book.{Record, Book, bookOf}
 use Rattle.book.specs.Writing.{fairAll}
 use Rattle.fields.specs.Fields.{overField}
 use Rattle.load.specs.declared.Loaded.{Loaded}
-use Rattle.load.specs.declared.Loaded.the-variants.{Stored, Broken, Outside, Over}
 use Rattle.load.specs.Load.{Outcome, bytesStored, firstCard, outside, roomIn, ofBook, loading}
 use Rattle.load.proofs.Laws.{first-hit, first-miss, first-none, none-fails}
 use Rattle.theorems.specs.Moved.{movedEntry}
-use Rattle.theorems.proofs.Fair.{fair-first, read-fair}
+use Rattle.book.proofs.Written.{fair-first, read-fair}
 use Rattle.theorems.proofs.Outcomes.{Load, load, firstOutside, firstOver}
 use Rattle.theorems.proofs.Outcomes.Why.{isBroken, isOutside, isOver, isEntryOver}
 use Rattle.theorems.proofs.Outcomes.Load.{isRefused, isStored}
@@ -42,7 +41,6 @@ module _ (fails : Record → Bool) where
   none-failing [] last f e = none-before
   none-failing (r ∷ rs) last f e =
       let (is, others) = fair-first last r rs f in
-      let rise = is .rise in
       let (passes, rest) = none-fails fails r rs (omega arith) e in
       none-with r rs passes (none-failing rs (r .card) others rest)
 
@@ -76,37 +74,37 @@ module _ (s : List ℕ) (d : Displacement) (m : List ℕ) where
   loaded = loading s d m
 
   abbrev fails51 : Record → Bool
-  fails51 = outside (d .0) (roomIn m)
+  fails51 = outside d (roomIn m)
 
   abbrev fails52 : Record → Bool
-  fails52 = overField (d .0)
+  fails52 = overField d
 
   -- 0 is the card of no record of a book that was read
   none-in : (fails : Record → Bool) (b : Book) → bookOf s ≡ some b → firstCard fails (b .records) ≡ 0 → NoneFails fails (b .records)
   none-in fails b f e = none-failing fails (b .records) 0 (read-fair s b f) e
 
   -- 50 where the bytes are no book
-  pub refused-50 : loaded .answer ≡ Broken ↔ (bookOf s ≡ none)
+  pub refused-50 : loaded .answer ≡ Loaded.Broken ↔ (bookOf s ≡ none)
   unfolding loading
   refused-50 = (λ h. there (rw h at (load s d m)), λ h. ap (λ x. ofBook x d m .answer) h)
     where
-      there : {x : List ℕ} → Load s d m Broken x → bookOf s ≡ none
+      there : {x : List ℕ} → Load s d m Loaded.Broken x → bookOf s ≡ none
       there (isRefused (isBroken f)) = f
 
   -- 51 with the card of the first record whose text is outside storage
-  pub refused-51 : (card : ℕ) → loaded .answer ≡ Outside card → (b : Book) × (bookOf s ≡ some b) × (FirstFails fails51 (b .records) card)
+  pub refused-51 : (card : ℕ) → loaded .answer ≡ Loaded.Outside card → (b : Book) × (bookOf s ≡ some b) × (FirstFails fails51 (b .records) card)
   refused-51 card h = go (rw h at (load s d m))
     where
-      go : {card : ℕ} {x : List ℕ} → Load s d m (Outside card) x → (b : Book) × (bookOf s ≡ some b) × (FirstFails fails51 (b .records) card)
+      go : {card : ℕ} {x : List ℕ} → Load s d m (Loaded.Outside card) x → (b : Book) × (bookOf s ≡ some b) × (FirstFails fails51 (b .records) card)
       go (isRefused (isOutside b f n)) = (b, f, first-failing fails51 (b .records) n)
 
   -- 52, where no record is outside, with the card of the first record that has a field over 65535, or 0 for the entry alone
-  pub refused-52 : (card : ℕ) → loaded .answer ≡ Over card
+  pub refused-52 : (card : ℕ) → loaded .answer ≡ Loaded.Over card
       → (b : Book) × (bookOf s ≡ some b) × (NoneFails fails51 (b .records))
       × (FirstFails fails52 (b .records) card ⊎ ((card ≡ 0) × (NoneFails fails52 (b .records)) × (entryOver (d .0) (b .entry) ≡ true)))
   refused-52 card h = go (rw h at (load s d m))
     where
-      go : {card : ℕ} {x : List ℕ} → Load s d m (Over card) x
+      go : {card : ℕ} {x : List ℕ} → Load s d m (Loaded.Over card) x
           → (b : Book) × (bookOf s ≡ some b) × (NoneFails fails51 (b .records))
           × (FirstFails fails52 (b .records) card ⊎ ((card ≡ 0) × (NoneFails fails52 (b .records)) × (entryOver (d .0) (b .entry) ≡ true)))
       go (isRefused (isOver b f i n)) = (b, f, none-in fails51 b f i, inl (first-failing fails52 (b .records) n))
@@ -115,23 +113,23 @@ module _ (s : List ℕ) (d : Displacement) (m : List ℕ) where
   -- accepted if and only if the bytes are a book, no record is outside storage, and neither a field nor the entry is over 65535;
   -- then the answer is the bytes of its records and the entry plus the displacement
   pub load-accepted : (bytes : ℕ) (at : Entry)
-      → loaded .answer ≡ Stored bytes at
+      → loaded .answer ≡ Loaded.Stored bytes at
       ↔ ((b : Book) × (bookOf s ≡ some b) × (NoneFails fails51 (b .records)) × (NoneFails fails52 (b .records)) × (entryOver (d .0) (b .entry) ≡ false)
-      × (bytes ≡ bytesStored (b .records)) × (at ≡ movedEntry (d .0) (b .entry)))
+      × (bytes ≡ bytesStored (b .records)) × (at ≡ movedEntry d (b .entry)))
   load-accepted bytes at = (λ h. there (rw h at (load s d m)), back)
     where
       Whole : ℕ → Entry → Type 0
       Whole bytes at =
           (b : Book) × (bookOf s ≡ some b) × (NoneFails fails51 (b .records)) × (NoneFails fails52 (b .records)) × (entryOver (d .0) (b .entry) ≡ false)
-          × (bytes ≡ bytesStored (b .records)) × (at ≡ movedEntry (d .0) (b .entry))
+          × (bytes ≡ bytesStored (b .records)) × (at ≡ movedEntry d (b .entry))
 
-      there : {bytes : ℕ} {at : Entry} {x : List ℕ} → Load s d m (Stored bytes at) x → Whole bytes at
+      there : {bytes : ℕ} {at : Entry} {x : List ℕ} → Load s d m (Loaded.Stored bytes at) x → Whole bytes at
       there (isStored b f i u o at x l) = (b, f, none-in fails51 b f i, none-in fails52 b f u, o, refl, x)
 
-      back : Whole bytes at → loaded .answer ≡ Stored bytes at
+      back : Whole bytes at → loaded .answer ≡ Loaded.Stored bytes at
       back (b, f, inside, under, low, size, to) = go (load s d m)
         where
-          go : {a : Loaded} {x : List ℕ} → Load s d m a x → a ≡ Stored bytes at
+          go : {a : Loaded} {x : List ℕ} → Load s d m a x → a ≡ Loaded.Stored bytes at
           go (isRefused (isBroken g)) = cc
           go (isRefused (isOutside c g n)) =
               let same : c ≡ b = cc in

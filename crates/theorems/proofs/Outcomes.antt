@@ -17,17 +17,14 @@ use Rattle.values.specs.declared.Moved.{Moved}
 use Rattle.values.proofs.Sums.{moved-to, moved-over}
 use Rattle.names.specs.Table.{zeroed}
 use Rattle.book.specs.declared.Entry.{Entry}
-use Rattle.book.specs.declared.Entry.the-variants.{Absent, At}
 use Rattle.book.specs.Book.{Book, bookOf}
 use Rattle.book.specs.Writing.{bookBytes, entryFits}
 use Rattle.cards.specs.Source.{isWidth, sourceNo, cardsFrom, cardsOf}
 use Rattle.cards.proofs.Whole.{source-whole}
 use Rattle.fields.specs.Fields.{overField}
 use Rattle.load.specs.declared.Loaded.{Loaded}
-use Rattle.load.specs.declared.Loaded.the-variants.{Stored, Broken, Outside, Over}
-use Rattle.load.specs.Load.{Outcome as Loads, bytesStored, storedAll, firstCard, outside, roomIn, entered, enteredAt, judged, ofBook, loading}
+use Rattle.load.specs.Load.{Outcome as Loads, bytesStored, storedAll, firstCard, outside, roomIn, judgedEntry, judgedMoved, judged, ofBook, loading}
 use Rattle.passes.specs.declared.Assembled.{Assembled}
-use Rattle.passes.specs.declared.Assembled.the-variants.{Made, Refused}
 use Rattle.passes.specs.Assembly.{Result, Outcome, assembled, workSize, written, outcomeOf, assembling}
 use Rattle.passes.specs.Assembly.Result.{made, refused}
 use Rattle.passes.proofs.Assembly.{too-long, fits, no-source, no-work, through-call}
@@ -64,15 +61,15 @@ module _ (width : ℕ) (source work out : List ℕ) where
   -- one way for each sentence of "Numbers of refusal" on the order: the answer, the work area, the output
   pub data Way : Assembled → List ℕ → List ℕ → Type 0 where
     -- 1, 2 and 3
-    atOnce : (number : ℕ) → 1 ≤ number → number ≤ 3 → Way (Refused number 0) work out
+    atOnce : (number : ℕ) → 1 ≤ number → number ≤ 3 → Way (Assembled.Refused number 0) work out
     -- a card is refused, or END is missing
     byCards : workSize ≤ length work → sourceNo width (length source) ≡ 0 → (number card : ℕ) → assembled (cardsOf width source) ≡ refused number card
-        → Way (Refused number card) (zeroed workSize work) out
+        → Way (Assembled.Refused number card) (zeroed workSize work) out
     -- 30
-    tooLong : workSize ≤ length work → Way (Refused 30 0) (zeroed workSize work) out
+    tooLong : workSize ≤ length work → Way (Assembled.Refused 30 0) (zeroed workSize work) out
     -- accepted
     whole : workSize ≤ length work → sourceNo width (length source) ≡ 0 → (names : ℕ) (book : Book) → assembled (cardsOf width source) ≡ made names book
-        → length (bookBytes book) ≤ length out → Way (Made (length (bookBytes book)) names) (zeroed workSize work) (sets out 0 (bookBytes book))
+        → length (bookBytes book) ≤ length out → Way (Assembled.Made (length (bookBytes book)) names) (zeroed workSize work) (sets out 0 (bookBytes book))
 
   abbrev IsWay : Outcome → Type 0
   IsWay x = Way (x .answer) (x .work) (x .out)
@@ -117,10 +114,10 @@ module _ (width : ℕ) (source work out : List ℕ) where
     pub room : length (bookBytes book) ≤ length out
     pub written : after .out ≡ sets out 0 (bookBytes book)
 
-  pub made-way : (bytes names : ℕ) → after .answer ≡ Made bytes names → IsMade bytes names
+  pub made-way : (bytes names : ℕ) → after .answer ≡ Assembled.Made bytes names → IsMade bytes names
   made-way bytes names h = go (after .out) refl (rw h at way)
     where
-      go : {bytes names : ℕ} {w : List ℕ} (o : List ℕ) → after .out ≡ o → Way (Made bytes names) w o → IsMade bytes names
+      go : {bytes names : ℕ} {w : List ℕ} (o : List ℕ) → after .out ≡ o → Way (Assembled.Made bytes names) w o → IsMade bytes names
       go o e (whole w f names book g l) = record { space = w; source-fine = f; book = book; cards = g; size = refl; room = l; written = e }
 
   -- the output is as it was, or has the book in front; the work area is as it was, or zero in front
@@ -147,41 +144,41 @@ module _ (width : ℕ) (source work out : List ℕ) where
 module _ (s : List ℕ) (d : Displacement) (m : List ℕ) where
   -- the card of the first record outside storage, and of the first with a field over 65535
   abbrev pub firstOutside : Book → ℕ
-  firstOutside b = firstCard (outside (d .0) (roomIn m)) (b .records)
+  firstOutside b = firstCard (outside d (roomIn m)) (b .records)
 
   abbrev pub firstOver : Book → ℕ
-  firstOver b = firstCard (overField (d .0)) (b .records)
+  firstOver b = firstCard (overField d) (b .records)
 
   pub data Why : Loaded → Type 0 where
     -- 50
-    isBroken : bookOf s ≡ none → Why Broken
+    isBroken : bookOf s ≡ none → Why Loaded.Broken
     -- 51
-    isOutside : (b : Book) → bookOf s ≡ some b → (firstOutside b ≡ 0 → ⊥) → Why (Outside (firstOutside b))
+    isOutside : (b : Book) → bookOf s ≡ some b → (firstOutside b ≡ 0 → ⊥) → Why (Loaded.Outside (firstOutside b))
     -- 52, of a field
-    isOver : (b : Book) → bookOf s ≡ some b → firstOutside b ≡ 0 → (firstOver b ≡ 0 → ⊥) → Why (Over (firstOver b))
+    isOver : (b : Book) → bookOf s ≡ some b → firstOutside b ≡ 0 → (firstOver b ≡ 0 → ⊥) → Why (Loaded.Over (firstOver b))
     -- 52, of the entry alone
-    isEntryOver : (b : Book) → bookOf s ≡ some b → firstOutside b ≡ 0 → firstOver b ≡ 0 → entryOver (d .0) (b .entry) ≡ true → Why (Over 0)
+    isEntryOver : (b : Book) → bookOf s ≡ some b → firstOutside b ≡ 0 → firstOver b ≡ 0 → entryOver (d .0) (b .entry) ≡ true → Why (Loaded.Over 0)
 
   -- the answer and the storage
   pub data Load : Loaded → List ℕ → Type 0 where
     isRefused : {why : Loaded} → Why why → Load why m
     isStored : (b : Book) → bookOf s ≡ some b → firstOutside b ≡ 0 → firstOver b ≡ 0 → entryOver (d .0) (b .entry) ≡ false
-        → (at : Entry) → at ≡ movedEntry (d .0) (b .entry) → entryFits at ≡ true → Load (Stored (bytesStored (b .records)) at) (storedAll (d .0) (b .records) m)
+        → (at : Entry) → at ≡ movedEntry d (b .entry) → entryFits at ≡ true → Load (Loaded.Stored (bytesStored (b .records)) at) (storedAll d (b .records) m)
 
   abbrev IsLoad : Loads → Type 0
   IsLoad x = Load (x .answer) (x .storage)
 
   module _ (b : Book) (f : bookOf s ≡ some b) (i : firstOutside b ≡ 0) (u : firstOver b ≡ 0) where
-    entry-moved : (v : Relocatable) → b .entry ≡ At v → (x : Moved) → x ≡ movedBy d v → IsLoad (enteredAt x (d .0) (b .records) m)
+    entry-moved : (v : Relocatable) → b .entry ≡ Entry.At v → (x : Moved) → x ≡ movedBy d v → IsLoad (judgedMoved x d (b .records) m)
     entry-moved v n (Moved.To w) q =
         let (is, low) = moved-to d v w q in
         let to : w ≡ record { 0 = v .0 + d .0 } = ap (λ (k : ℕ). record { 0 = k }) is in
-        isStored b f i u (ap (entryOver (d .0)) n ∙ le-ltb 65535 (v .0 + d .0) low) (At w) (ap At to ∙ ap (movedEntry (d .0)) (sym n)) (le-leb (w .0) 65535 (omega arith))
+        isStored b f i u (ap (entryOver (d .0)) n ∙ le-ltb 65535 (v .0 + d .0) low) (Entry.At w) (ap Entry.At to ∙ ap (movedEntry d) (sym n)) (le-leb (w .0) 65535 (omega arith))
     entry-moved v n Moved.Over q = isRefused (isEntryOver b f i u (ap (entryOver (d .0)) n ∙ lt-ltb 65535 (v .0 + d .0) (moved-over d v q)))
 
-    entry-told : (x : Entry) → b .entry ≡ x → IsLoad (entered x d (b .records) m)
-    entry-told Absent n = isStored b f i u (ap (entryOver (d .0)) n) Absent (ap (movedEntry (d .0)) (sym n)) refl
-    entry-told (At v) n = entry-moved v n (movedBy d v) refl
+    entry-told : (x : Entry) → b .entry ≡ x → IsLoad (judgedEntry x d (b .records) m)
+    entry-told Entry.Absent n = isStored b f i u (ap (entryOver (d .0)) n) Entry.Absent (ap (movedEntry d) (sym n)) refl
+    entry-told (Entry.At v) n = entry-moved v n (movedBy d v) refl
 
   pub load : IsLoad (loading s d m)
   unfolding loading judged
@@ -197,7 +194,7 @@ module _ (s : List ℕ) (d : Displacement) (m : List ℕ) where
       first (some b) f = book b f (eqb (firstOutside b) 0) refl (eqb (firstOver b) 0) refl
 
   -- the storage is as it was, or the records of a book that lie inside it are stored
-  pub storage-after : (P : List ℕ → Type 0) → P m → ((b : Book) → bookOf s ≡ some b → firstOutside b ≡ 0 → P (storedAll (d .0) (b .records) m)) → P (loading s d m .storage)
+  pub storage-after : (P : List ℕ → Type 0) → P m → ((b : Book) → bookOf s ≡ some b → firstOutside b ≡ 0 → P (storedAll d (b .records) m)) → P (loading s d m .storage)
   storage-after P same put = go load
     where
       go : {a : Loaded} {x : List ℕ} → Load a x → P x
