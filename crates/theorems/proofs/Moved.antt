@@ -17,25 +17,31 @@ use Rattle.names.specs.Raised.{raisedName}
 use Rattle.book.specs.Book.{Record, Book}
 use Rattle.book.specs.Writing.{bookBytes, entryFits}
 use Rattle.passes.specs.declared.Phase.the-variants.{Within}
-use Rattle.passes.specs.declared.Checked.the-variants.{Clean}
+use Rattle.passes.specs.Two.Checked.{clean}
 use Rattle.passes.specs.One.{State, fresh, passOne}
 use Rattle.passes.specs.One.Passed.{through}
-use Rattle.passes.specs.Two.{outset, checkTwo, recordsFrom, entryFrom, bookFrom}
+use Rattle.passes.specs.Two.{outset, checkTwo, cardRecords, entryFrom, bookFrom}
 use Rattle.passes.specs.Assembly.{assembled}
 use Rattle.passes.specs.Assembly.Result.{made}
 use Rattle.load.specs.Load.{judged, loading}
-use Rattle.passes.proofs.Counter.{start-fits}
+use Rattle.operations.specs.declared.traits.Pattern.the-variants.{StartTerm}
+use Rattle.forms.specs.declared.Shape.{Shape}
+use Rattle.forms.specs.Shape.{startOr}
+use Rattle.forms.proofs.Laws.{ShapeIn, shape-in}
+use Rattle.lines.specs.Lines.{operandColumns}
+use Rattle.lines.proofs.Laws.{line-shape}
+use Rattle.theorems.proofs.Lines.{Has, line-has}
+use Rattle.theorems.proofs.Lines.Has.{fails, starts}
 use Rattle.theorems.specs.Fields.{Apart}
 use Rattle.theorems.specs.Raised.{raisedState}
 use Rattle.fields.proofs.Laws.{moved-length}
 use Rattle.theorems.specs.Moved.{movedEntry, movedRecord, movedBook, Starting, SameButStart}
-use Rattle.theorems.proofs.Made.{both-passed}
+use Rattle.theorems.proofs.Accepted.{both-passed}
 use Rattle.theorems.proofs.Readable.{entry-fits, loaded-as-made}
 use Rattle.theorems.proofs.Fields.{other-bytes}
-use Rattle.theorems.proofs.RaisedOne.{AllUsual, pass-usual, pass-raised}
-use Rattle.theorems.proofs.RaisedTwo.{records-raised, entries-raised}
-use Rattle.theorems.proofs.RaisedLoad.{RecordsRaised, records-moved, judged-same}
-use Rattle.theorems.proofs.Started.{AllComments, behind, begunOne, begunTwo, only-comments, one-behind, two-behind, records-behind, entry-behind}
+use Rattle.theorems.proofs.RaisedPasses.{AllUsual, pass-usual, pass-raised, records-raised, entries-raised}
+use Rattle.theorems.proofs.RaisedText.{RecordsRaised, records-moved, judged-same}
+use Rattle.theorems.proofs.Started.{AllComments, cardBehind, begunOne, begunTwo, only-comments, one-behind, two-behind, records-behind, entry-behind}
 
 begun-raised : (d name at : ℕ) → begunOne name (at + d) ≡ raisedState d (begunOne name at)
 begun-raised d name at = ap (λ ns. record { counter = at + d; names = ns; phase = Within }) (go (eqb name 0))
@@ -51,7 +57,7 @@ begun-raised d name at = ap (λ ns. record { counter = at + d; names = ns; phase
 module _ (d : ℕ) (before after : List (List ℕ)) (s t : List ℕ) (name at : ℕ) (starts : Starting s name at) (starts′ : Starting t name (at + d))
     (a e : State) (p : passOne 1 fresh (before ++ s ∷ after) ≡ through a) (q : passOne 1 fresh (before ++ t ∷ after) ≡ through e) where
   abbrev next : ℕ
-  next = behind 1 before + 1
+  next = cardBehind 1 before + 1
 
   abbrev up : List Name
   up = map (raisedName d) (a .names)
@@ -69,13 +75,13 @@ module _ (d : ℕ) (before after : List (List ℕ)) (s t : List ℕ) (name at : 
   usual : AllUsual after
   usual = pass-usual after next (begunOne name at) a tt from
 
-  deck-raised : checkTwo (find (a .names)) 1 outset (before ++ s ∷ after) ≡ Clean → checkTwo (find (e .names)) 1 outset (before ++ t ∷ after) ≡ Clean
-      → (e .names ≡ up) × (RecordsRaised d (recordsFrom (find (a .names)) 1 outset (before ++ s ∷ after)) (recordsFrom (find (e .names)) 1 outset (before ++ t ∷ after)))
-      × (entryFrom (find (e .names)) outset (before ++ t ∷ after) ≡ movedEntry d (entryFrom (find (a .names)) outset (before ++ s ∷ after)))
-  deck-raised clean clean′ =
+  deck-raised : checkTwo (find (a .names)) 1 outset (before ++ s ∷ after) ≡ clean → checkTwo (find (e .names)) 1 outset (before ++ t ∷ after) ≡ clean
+      → (e .names ≡ up) × (RecordsRaised d (cardRecords (find (a .names)) 1 outset (before ++ s ∷ after)) (cardRecords (find (e .names)) 1 outset (before ++ t ∷ after)))
+      × (entryFrom (find (e .names)) outset (before ++ t ∷ after) ≡ movedEntry (record { 0 = d }) (entryFrom (find (a .names)) outset (before ++ s ∷ after)))
+  deck-raised p₂ q₂ =
       let names : e .names ≡ up = ap (λ (x : State). x .names) end-raised in
-      let lower = two-behind before s after name at starts comments (find (a .names)) clean in
-      let higher = rw names at (two-behind before t after name (at + d) starts′ comments (find (e .names)) clean′) in (
+      let lower = two-behind before s after name at starts comments (find (a .names)) p₂ in
+      let higher = rw names at (two-behind before t after name (at + d) starts′ comments (find (e .names)) q₂) in (
         names,
         rw (records-behind before s after name at starts comments (find (a .names)), records-behind before t after name (at + d) starts′ comments (find (e .names)), names)
             (records-raised d (a .names) after next (begunTwo at) usual lower higher),
@@ -86,13 +92,19 @@ module _ (d : ℕ) (before after : List (List ℕ)) (s t : List ℕ) (name at : 
 -- "the displacement (unsigned, 16 bits)": d is one, since both values are
 pub displacement-fits : (d : ℕ) (ss ts : List (List ℕ)) → SameButStart d ss ts → d ≤ 65535
 displacement-fits d ss ts same =
-    let value = same .startsHigher .value in
-    let low = start-fits (same .second) (same .startsHigher .line) (same .startsHigher .reads) in
+    let x = same .startsHigher in
+    let o = operandColumns (same .second) (x .line) in
+    let shape = line-shape (same .second) (x .line) (x .reads) in
+    let low = go o (rw (x .operation) at (line-has (same .second) (x .line) (x .reads))) (rw (← shape) at (shape-in (x .line .operation) o)) in
     omega arith
+  where
+    go : (o : List ℕ) {x : Shape} → Has StartTerm x → ShapeIn o x → startOr x 0 ≤ 65535
+    go o fails w = omega arith
+    go o starts w = omega arith
 
 -- THE THEOREM, of two such decks that are both accepted
 module _ (d : ℕ) (ss ts : List (List ℕ)) (same : SameButStart d ss ts) (n m : ℕ) (b c : Book) (accepted : assembled ss ≡ made n b) (accepted′ : assembled ts ≡ made m c) where
-  deck-books : (m ≡ n) × (RecordsRaised d (b .records) (c .records)) × (c .entry ≡ movedEntry d (b .entry))
+  deck-books : (m ≡ n) × (RecordsRaised d (b .records) (c .records)) × (c .entry ≡ movedEntry (record { 0 = d }) (b .entry))
   unfolding bookFrom
   deck-books =
       let x = both-passed ss n b accepted in
@@ -110,7 +122,7 @@ module _ (d : ℕ) (ss ts : List (List ℕ)) (same : SameButStart d ss ts) (n m 
   same-names = deck-books .0
 
   -- the second book is the first, moved as the loader moves it: entry and addresses d higher, d added to the listed fields and to nothing else
-  pub book-raised : c ≡ movedBook d b
+  pub book-raised : c ≡ movedBook (record { 0 = d }) b
   book-raised = rw (← records-moved d (b .records) (c .records) (deck-books .1), ← deck-books .2)
 
   -- loading the records of the first by d and those of the second by 0: the same answer, the same storage
@@ -127,8 +139,8 @@ module _ (d : ℕ) (ss ts : List (List ℕ)) (same : SameButStart d ss ts) (n m 
       → (q : Record) × (List·Memᴰ q (c .records)) × (q .card ≡ r .card) × (q .fields ≡ r .fields) × (length (q .text) ≡ length (r .text))
       × ((i : ℕ) → Apart i (r .fields) → getD (q .text) i 0 ≡ getD (r .text) i 0)
   other-bytes-stay r h =
-      let here = subst (List·Memᴰ (movedRecord d r)) (sym (ap (λ (x : Book). x .records) book-raised)) (Memᴰ·map (movedRecord d) h) in
-      (movedRecord d r, here, refl, refl, moved-length d (r .text) (r .fields) (r .text), other-bytes d r)
+      let here = subst (List·Memᴰ (movedRecord (record { 0 = d }) r)) (sym (ap (λ (x : Book). x .records) book-raised)) (Memᴰ·map (movedRecord (record { 0 = d })) h) in
+      (movedRecord (record { 0 = d }) r, here, refl, refl, moved-length (record { 0 = d }) (r .text) (r .fields) (r .text), other-bytes (record { 0 = d }) r)
 
 -- THE SAME OF THE BOOKS' BYTES, where there are at most 4,000 cards
 pub moved-is-raised : (d : ℕ) (ss ts : List (List ℕ)) → SameButStart d ss ts → length ss ≤ 4000 → (n m : ℕ) (b c : Book)

@@ -1,59 +1,57 @@
 -- "Numbers of refusal": what the two passes refuse with is 9 to 24.
-use Prim.Native.Nat.{ℕ, suc, _+_, _≤_, _<_}
-use mathlib.Core.List.{List, [], _∷_}
+use Prim.Native.Nat.{ℕ, _+_, _≤_}
+use mathlib.Core.List.{List}
 use mathlib.Core.Bool.{Bool, true, false}
-use mathlib.Core.Path.{_≡_, refl, sym}
+use mathlib.Core.Path.{_≡_, refl, subst}
 use mathlib.Core.Logic.{_⊎_, inl, inr}
 use native.Mathlib.Omega.{arith}
 use lib.ListN.{length}
 use lib.Dec.{ltb, leb, eqb}
-use borrow.Author.Tests.{eqb-false}
 use Rattle.values.specs.Tests.{pick, orElse, lower}
-use Rattle.values.specs.declared.Value.{Value}
-use Rattle.names.specs.declared.Entry.{Entry}
-use Rattle.names.specs.Table.{amountOf}
-use Rattle.names.specs.declared.Entry.the-variants.{Known, Unknown as NotKnown}
+use Rattle.names.specs.declared.Meaning.{Meaning}
+use Rattle.values.specs.Values.{amountOf}
 use Rattle.names.specs.Names.{find, refusalOf, nameRefusal}
-use Rattle.cards.specs.Fields.{allAccepted, byteNo}
-use Rattle.expressions.specs.declared.Wanted.{Wanted}
-use Rattle.expressions.specs.declared.Evaluated.{Evaluated}
-use Rattle.expressions.specs.declared.Evaluated.the-variants.{Good, Malformed, Undefined, WrongKind, OutOfRange}
-use Rattle.expressions.specs.Value.{suits, kindOf, refusalFor}
+use Rattle.values.specs.declared.MaybeValue.{MaybeValue}
+use Rattle.values.specs.declared.MaybeAbsolute.{MaybeAbsolute}
 use Rattle.operations.specs.declared.Operation.{Operation}
-use Rattle.operations.specs.declared.Operation.the-variants.{Unknown, Start, Equ, Org, Dc, Ds, Using, Drop, End, Decimal, Characters, Move, MoveOf, OneAddress, Branch, LoadAddress, BranchOn, Jump, JumpOn}
-use Rattle.operations.specs.Codes.{operationNo, nameNo}
+use Rattle.operations.specs.declared.traits.Role.{Role}
+use Rattle.operations.specs.declared.traits.Naming.{Naming}
+use Rattle.operations.specs.declared.traits.Use.{Use}
+use Rattle.operations.specs.Traits.{traitsOf, roleOf, firstWanted, useOf, namedNo}
+use Rattle.data.specs.declared.DataCard.{DataCard}
 use Rattle.data.specs.declared.Data.{Data}
-use Rattle.data.specs.Sizes.{lengthFits, bytesNeeded, dataSize, constantNo, reserveNo}
+use Rattle.data.specs.Sizes.{lengthFits, bytesNeeded, dataSize, constantNo, reserveNo, dataNoBy, dataNo}
+use Rattle.operands.specs.declared.EvaluatedItem.{EvaluatedItem}
+use Rattle.operands.specs.declared.EvaluatedAddress.{EvaluatedAddress}
+use Rattle.operands.specs.declared.Operands.{Operands}
+use Rattle.operands.specs.Kinds.{itemNo, addressNo, constantWanted, expressionsNo}
+use Rattle.places.specs.declared.Bases.{Bases}
+use Rattle.places.specs.declared.Placed.{Placed}
+use Rattle.places.specs.declared.codes.Code.{Code}
+use Rattle.places.specs.Codes.{codeOf, codeNo}
+use Rattle.places.specs.Places.{isRegister, operandOf, placedNo, jumpTo, reachNo, registerNo, useNo, placesNo}
+use Rattle.statements.specs.Statements.{nextOf, statementNo}
+use Rattle.passes.specs.Cards.{operandsAt, nameValue}
+use Rattle.passes.specs.Two.{outset, readingTwoNo, twoNo}
+use Rattle.theorems.proofs.Lines.{of-data}
+use Rattle.cards.specs.Fields.{allAccepted, byteNo}
+use Rattle.values.specs.declared.Wanted.{Wanted}
+use Rattle.expressions.specs.declared.Evaluated.{Evaluated}
+use Rattle.expressions.specs.Value.{suits, kindOf, refusalFor, absoluteIn}
 use Rattle.forms.specs.declared.Shape.{Shape}
-use Rattle.forms.specs.declared.Shape.the-variants.{Fails, Nothing, StartAt, Expression, Pair, Target, Two, One, Only, Constant, Reserve}
 use Rattle.forms.specs.Size.{sizeOf}
-use Rattle.statements.specs.declared.operands.Valued.{Valued}
-use Rattle.statements.specs.declared.operands.Place.{Place}
-use Rattle.statements.specs.declared.operands.Operands.{Operands}
-use Rattle.statements.specs.declared.codes.Code.{Code}
-use Rattle.statements.specs.declared.places.Bases.{Bases}
-use Rattle.statements.specs.declared.places.Placed.{Placed}
-use Rattle.statements.specs.declared.places.Use.{Use}
-use Rattle.statements.specs.Kinds.{firstWanted, itemNo, placeNo, addressWanted, expressionsNo}
-use Rattle.statements.specs.Codes.{codeOf, codeNo}
-use Rattle.statements.specs.Operands.{amountIn}
-use Rattle.statements.specs.Places.{useOf, isRegister, operandOf, placedNo, jumpCode, reachNo, useNo, placesNo}
-use Rattle.statements.specs.Statements.{numberOf}
 use Rattle.lines.specs.declared.Line.{Line}
 use Rattle.lines.specs.declared.Reading.{Reading}
-use Rattle.lines.specs.declared.Reading.the-variants.{Comment, BadName, Statement}
 use Rattle.lines.specs.Lines.{readingOf, shapeNo}
-use Rattle.passes.specs.declared.Role.{Role}
 use Rattle.passes.specs.declared.Phase.{Phase}
 use Rattle.passes.specs.declared.Course.{Course}
-use Rattle.passes.specs.declared.Checked.{Checked}
-use Rattle.passes.specs.declared.Checked.the-variants.{Clean, Bad}
-use Rattle.passes.specs.Cards.{roleOf, operandsAt, nameValue}
-use Rattle.passes.specs.One.{State, Passed, fresh, afterEndNo, startNo, againNo, mostNames, earlyBy, earlyNo, mFits, over, overNo, dataNo, valueNo, lineNo, readingNo, oneNo, stepOne, endedAs, passOne}
-use Rattle.passes.specs.One.Passed.{through, stopped}
-use Rattle.passes.specs.Two.{outset, readingTwoNo, twoNo, stepTwo, checkTwo}
-use Rattle.passes.specs.Assembly.{afterTwo, afterOne, assembled}
+use Rattle.passes.specs.One.{State, fresh, afterEndNo, startNo, againNo, mostNames, earlyBy, earlyNo, mFits, over, overNo, valueNo, lineNo, readingNo, oneNo}
+use Rattle.passes.specs.Assembly.{assembled}
 use Rattle.passes.specs.Assembly.Result.{refused}
+use Rattle.theorems.specs.Grow.{lookIn}
+use Rattle.theorems.specs.Accepted.{oneAt, twoAt, FirstRefused}
+use Rattle.theorems.proofs.Accepted.{Fate, fate}
+use Rattle.theorems.proofs.Accepted.Fate.{byOne, noEnd, byTwo}
 
 -- none, or 9 to 24
 abbrev Number : ℕ → Type 0
@@ -80,67 +78,74 @@ one n l u = inr (l, u)
 -- PASS TWO
 
 wanted : (w : Wanted) (e : Evaluated) → Number (refusalFor w e)
-wanted w (Good v) = pick-number (suits w (kindOf v)) 0 19 none (one 19 (omega arith) (omega arith))
-wanted w Malformed = one 15 (omega arith) (omega arith)
-wanted w Undefined = one 18 (omega arith) (omega arith)
-wanted w WrongKind = one 19 (omega arith) (omega arith)
-wanted w (OutOfRange k) = pick-number (suits w k) 20 19 (one 20 (omega arith) (omega arith)) (one 19 (omega arith) (omega arith))
+wanted w (Evaluated.Good v) = pick-number (suits w (kindOf v)) 0 19 none (one 19 (omega arith) (omega arith))
+wanted w Evaluated.Malformed = one 15 (omega arith) (omega arith)
+wanted w Evaluated.Undefined = one 18 (omega arith) (omega arith)
+wanted w Evaluated.WrongKind = one 19 (omega arith) (omega arith)
+wanted w (Evaluated.OutOfRange k) = pick-number (suits w k) 20 19 (one 20 (omega arith) (omega arith)) (one 19 (omega arith) (omega arith))
 
-item : (v : Valued) → Number (itemNo v)
-item Valued.Absent = none
-item (Valued.Of e) = wanted Wanted.OnlyAbsolute e
+item : (v : EvaluatedItem) → Number (itemNo v)
+item EvaluatedItem.Absent = none
+item (EvaluatedItem.Of e) = wanted Wanted.OnlyAbsolute e
 
-place : (p : Place) → Number (placeNo p)
-place p = lower-number _ _ (wanted Wanted.Any (p .address)) (lower-number _ _ (item (p .length)) (item (p .register)))
+address : (a : EvaluatedAddress) → Number (addressNo a)
+address a = lower-number _ _ (wanted Wanted.Any (a .address)) (lower-number _ _ (item (a .length)) (item (a .register)))
 
 expressions : (op : Operation) (x : Operands) → Number (expressionsNo op x)
 unfolding expressionsNo
-expressions op (Operands.Two a b) = lower-number _ _ (place a) (place b)
-expressions op (Operands.One a q) = lower-number _ _ (place a) (wanted Wanted.OnlyAbsolute q)
-expressions op (Operands.Only a) = place a
+expressions op (Operands.TwoAddresses a b) = lower-number _ _ (address a) (address b)
+expressions op (Operands.AddressAndCode a q) = lower-number _ _ (address a) (wanted Wanted.OnlyAbsolute q)
+expressions op (Operands.LoneAddress a) = address a
 expressions op (Operands.Pair e q) = lower-number _ _ (wanted (firstWanted op) e) (wanted Wanted.OnlyAbsolute q)
 expressions op (Operands.Lone e) = wanted (firstWanted op) e
-expressions op (Operands.Addresses n m e) = wanted (addressWanted m) e
+expressions op (Operands.AddressConstants n m e) = wanted (constantWanted m) e
 expressions op Operands.None = none
 
 code : (c : Code) → Number (codeNo c)
 code (Code.Byte b) = none
 code Code.OutOfRange = one 21 (omega arith) (omega arith)
+code Code.Nothing = one 21 (omega arith) (omega arith)
 
 placed : (p : Placed) → Number (placedNo p)
 placed (Placed.At x) = none
 placed Placed.NoBase = one 22 (omega arith) (omega arith)
 placed Placed.OutOfReach = one 23 (omega arith) (omega arith)
+placed Placed.Nothing = none
 
 reach : (c : Code) → Number (reachNo c)
 reach (Code.Byte b) = none
 reach Code.OutOfRange = one 23 (omega arith) (omega arith)
+reach Code.Nothing = none
 
-used : (u : Use) (here : ℕ) (first last : Evaluated) → Number (useNo u here first last)
-used Use.Jumps here first last = reach (jumpCode here _)
-used Use.Registers here first last = pick-number (isRegister (amountIn last)) 0 22 none (one 22 (omega arith) (omega arith))
-used Use.Nothing here first last = none
+register : (r : MaybeAbsolute) → Number (registerNo r)
+register (MaybeAbsolute.Is r) = pick-number (isRegister (r .0)) 0 22 none (one 22 (omega arith) (omega arith))
+register MaybeAbsolute.Nothing = none
 
-places : (u : Use) (x : Operands) (here : ℕ) (bases : Bases) → Number (placesNo u x here bases)
+used : (u : Use) (next : ℕ) (first last : Evaluated) → Number (useNo u next first last)
+used Use.Jumps next first last = reach (jumpTo next first)
+used Use.Registers next first last = register (absoluteIn last)
+used Use.Nothing next first last = none
+
+places : (u : Use) (x : Operands) (next : ℕ) (bases : Bases) → Number (placesNo u x next bases)
 unfolding placesNo
-places u (Operands.Two a b) here bases = lower-number _ _ (placed (operandOf bases a)) (placed (operandOf bases b))
-places u (Operands.One a q) here bases = placed (operandOf bases a)
-places u (Operands.Only a) here bases = placed (operandOf bases a)
-places u (Operands.Pair e last) here bases = used u here e last
-places u (Operands.Lone e) here bases = used u here e e
-places u (Operands.Addresses n m e) here bases = none
-places u Operands.None here bases = none
+places u (Operands.TwoAddresses a b) next bases = lower-number _ _ (placed (operandOf bases a)) (placed (operandOf bases b))
+places u (Operands.AddressAndCode a q) next bases = placed (operandOf bases a)
+places u (Operands.LoneAddress a) next bases = placed (operandOf bases a)
+places u (Operands.Pair e last) next bases = used u next e last
+places u (Operands.Lone e) next bases = used u next e e
+places u (Operands.AddressConstants n m e) next bases = none
+places u Operands.None next bases = none
 
-two-number : (look : ℕ → Entry) (c : Course) (s : List ℕ) → Number (twoNo look c s)
-unfolding twoNo numberOf
+two-number : (look : ℕ → Meaning) (c : Course) (s : List ℕ) → Number (twoNo look c s)
+unfolding twoNo statementNo
 two-number look c s = go (readingOf s)
   where
     go : (x : Reading) → Number (readingTwoNo look c s x)
-    go Comment = none
-    go BadName = none
-    go (Statement l) =
+    go Reading.Comment = none
+    go Reading.BadName = none
+    go (Reading.Statement l) =
         let x = operandsAt look (c .counter) s l in
-        or-number _ _ (expressions (l .operation) x) (or-number _ _ (code (codeOf (l .operation) x)) (places (useOf (l .operation)) x (c .counter) (c .bases)))
+        or-number _ _ (expressions (l .operation) x) (or-number _ _ (code (codeOf (l .operation) x)) (places (useOf (l .operation)) x (nextOf (l .operation) (c .counter)) (c .bases)))
 
 -- PASS ONE
 
@@ -165,26 +170,10 @@ start Phase.Before Role.Advances = one 13 (omega arith) (omega arith)
 start Phase.Within r = again r
 start Phase.Ended r = again r
 
-named : (op : Operation) (name : ℕ) → Number (operationNo op) × Number (nameNo op name)
-named Unknown name = (one 12 (omega arith) (omega arith), none)
-named Start name = (none, none)
-named Equ name = (none, pick-number (eqb name 0) 14 0 (one 14 (omega arith) (omega arith)) none)
-named Org name = (none, pick-number (eqb name 0) 0 14 none (one 14 (omega arith) (omega arith)))
-named Dc name = (none, none)
-named Ds name = (none, none)
-named Using name = (none, pick-number (eqb name 0) 0 14 none (one 14 (omega arith) (omega arith)))
-named Drop name = (none, pick-number (eqb name 0) 0 14 none (one 14 (omega arith) (omega arith)))
-named End name = (none, pick-number (eqb name 0) 0 14 none (one 14 (omega arith) (omega arith)))
-named (Decimal low) name = (none, none)
-named (Characters low) name = (none, none)
-named Move name = (none, none)
-named (MoveOf i) name = (none, none)
-named (OneAddress low) name = (none, none)
-named (Branch low) name = (none, none)
-named LoadAddress name = (none, none)
-named (BranchOn q) name = (none, none)
-named Jump name = (none, none)
-named (JumpOn q) name = (none, none)
+named : (n : Naming) (name : ℕ) → Number (namedNo n name)
+named Naming.Needed name = pick-number (eqb name 0) 14 0 (one 14 (omega arith) (omega arith)) none
+named Naming.Taken name = none
+named Naming.Forbidden name = pick-number (eqb name 0) 0 14 none (one 14 (omega arith) (omega arith))
 
 constant : (d : Data) → Number (constantNo d)
 unfolding constantNo
@@ -200,27 +189,30 @@ reserve d =
     let no = one 21 (omega arith) (omega arith) in
     pick-number (lengthFits d) _ 21 (pick-number (ltb 65535 (d .copies)) 21 0 no none) no
 
--- 15 and 21, by the shape
-shaped : (x : Shape) → Number (shapeNo x) × Number (dataNo x)
-shaped (Fails q) = (one 15 (omega arith) (omega arith), none)
-shaped Nothing = (none, none)
-shaped (StartAt v) = (none, none)
-shaped Expression = (none, none)
-shaped (Pair p) = (none, none)
-shaped Target = (none, none)
-shaped (Two a b) = (none, none)
-shaped (One a p) = (none, none)
-shaped (Only a) = (none, none)
-shaped (Constant d) = (none, constant d)
-shaped (Reserve d) = (none, reserve d)
+sizes : (c : DataCard) (d : Data) → Number (dataNoBy c d)
+sizes DataCard.Constant d = constant d
+sizes DataCard.Reserve d = reserve d
+
+-- 15
+shaped : (x : Shape) → Number (shapeNo x)
+shaped (Shape.Fails q) = one 15 (omega arith) (omega arith)
+shaped Shape.Nothing = none
+shaped (Shape.StartAt v) = none
+shaped Shape.Expression = none
+shaped (Shape.Pair p) = none
+shaped Shape.Target = none
+shaped (Shape.TwoAddresses a b) = none
+shaped (Shape.AddressAndCode a p) = none
+shaped (Shape.LoneAddress a) = none
+shaped (Shape.Data d) = none
 
 new : (st : State) (name : ℕ) → Number (nameRefusal mostNames (st .names) name)
 unfolding nameRefusal
 new st name = go (find (st .names) name)
   where
-    go : (e : Entry) → Number (refusalOf mostNames (length (st .names)) e)
-    go (Known v l) = one 16 (omega arith) (omega arith)
-    go NotKnown = pick-number (ltb (length (st .names)) mostNames) 0 17 none (one 17 (omega arith) (omega arith))
+    go : (e : Meaning) → Number (refusalOf mostNames (length (st .names)) e)
+    go (Meaning.Known v l) = one 16 (omega arith) (omega arith)
+    go Meaning.Unknown = pick-number (ltb (length (st .names)) mostNames) 0 17 none (one 17 (omega arith) (omega arith))
 
 early : (r : Role) (op : Operation) (x : Operands) → Number (earlyBy r op x)
 early Role.Starts op x = none
@@ -229,8 +221,9 @@ early Role.SetsCounter op x = expressions op x
 early Role.Ends op x = none
 early Role.Advances op x = none
 
-high : (v : Value) → Number (over v)
-high v = pick-number (leb (amountOf v) 65535) 0 20 none (one 20 (omega arith) (omega arith))
+high : (v : MaybeValue) → Number (over v)
+high (MaybeValue.Is v) = pick-number (leb (amountOf v) 65535) 0 20 none (one 20 (omega arith) (omega arith))
+high MaybeValue.Nothing = none
 
 value-number : (st : State) (s : List ℕ) (l : Line) → Number (valueNo st s l)
 unfolding valueNo earlyNo overNo
@@ -239,25 +232,24 @@ value-number st s l =
     (or-number _ _ (early (roleOf (l .operation)) (l .operation) (operandsAt (find (st .names)) (st .counter) s l))
     (or-number _ _
     (pick-number (eqb (l .name) 0) 0 _ none (pick-number (mFits (l .shape)) _ 0 (high (nameValue (find (st .names)) (st .counter) s l)) none))
-    (or-number _ _ (shaped (l .shape) .1)
+    (or-number _ _ (of-data (λ f. Number (f ℕ dataNo 0)) (λ d. sizes (d .card) d) none (l .shape))
     (pick-number (leb (st .counter + sizeOf (l .operation) (l .shape)) 65536) 0 24 none (one 24 (omega arith) (omega arith))))))
 
 line-number : (st : State) (s : List ℕ) (l : Line) → Number (lineNo st s l)
 unfolding lineNo
 line-number st s l =
-    let names = named (l .operation) (l .name) in
-    or-number _ _ (names .0)
+    or-number _ _ (pick-number (traitsOf (l .operation) .known) 0 12 none (one 12 (omega arith) (omega arith)))
     (or-number _ _ (start (st .phase) (roleOf (l .operation)))
-    (or-number _ _ (names .1) (or-number _ _ (shaped (l .shape) .0) (value-number st s l))))
+    (or-number _ _ (named (traitsOf (l .operation) .naming) (l .name)) (or-number _ _ (shaped (l .shape)) (value-number st s l))))
 
 one-number : (st : State) (s : List ℕ) → Number (oneNo st s)
 unfolding oneNo byteNo
 one-number st s = or-number _ _ (after (st .phase)) (or-number _ _ (pick-number (allAccepted s) 0 10 none (one 10 (omega arith) (omega arith))) (go (readingOf s)))
   where
     go : (x : Reading) → Number (readingNo st s x)
-    go Comment = none
-    go BadName = one 11 (omega arith) (omega arith)
-    go (Statement l) = line-number st s l
+    go Reading.Comment = none
+    go Reading.BadName = one 11 (omega arith) (omega arith)
+    go (Reading.Statement l) = line-number st s l
 
 -- BOTH PASSES: the number and the card
 
@@ -265,71 +257,23 @@ told : (n : ℕ) → Number n → (n ≡ 0 → ⊥) → (9 ≤ n) × (n ≤ 24)
 told n (inl e) h = absurd (h e)
 told n (inr h) k = h
 
--- 9 to 24 with one of the cards from k on, below `end`; or 9 with card 0: "no END (card 0)"
-abbrev Told : ℕ → ℕ → ℕ → ℕ → Type 0
-Told k end number card = ((9 ≤ number) × (number ≤ 24) × (k ≤ card) × (card < end)) ⊎ ((number ≡ 9) × (card ≡ 0))
-
-module _ (number card : ℕ) where
-  -- what is told of the cards behind the first
-  behind-first : (k n : ℕ) → Told (k + 1) (k + 1 + n) number card → Told k (k + suc n) number card
-  behind-first k n (inl (low, high, from, to)) = inl (low, high, omega arith, omega arith)
-  behind-first k n (inr h) = inr h
-
-  pass-number : (ss : List (List ℕ)) (k : ℕ) (st : State) → passOne k st ss ≡ stopped number card → Told k (k + length ss) number card
-  unfolding passOne
-  pass-number [] k st h = go (st .phase) h
-    where
-      go : (p : Phase) → endedAs p st ≡ stopped number card → Told k (k + 0) number card
-      go Phase.Before h = let e : _≡_ {A = ℕ} 9 number = cc in let f : _≡_ {A = ℕ} 0 card = cc in inr (sym e, sym f)
-      go Phase.Within h = let e : _≡_ {A = ℕ} 9 number = cc in let f : _≡_ {A = ℕ} 0 card = cc in inr (sym e, sym f)
-      go Phase.Ended h = let z : _≡_ {A = ℕ} 0 1 = cc in absurd (omega arith)
-  pass-number (s ∷ ss) k st h = go (eqb (oneNo st s) 0) refl h (pass-number ss (k + 1) (stepOne st s))
-    where
-      go : (b : Bool) → eqb (oneNo st s) 0 ≡ b → pick b (passOne (k + 1) (stepOne st s) ss) (stopped (oneNo st s) k) ≡ stopped number card
-          → (passOne (k + 1) (stepOne st s) ss ≡ stopped number card → Told (k + 1) (k + 1 + length ss) number card)
-          → Told k (k + suc (length ss)) number card
-      go true e h ih = behind-first k (length ss) (ih h)
-      go false e h ih =
-          let is : oneNo st s ≡ number = cc in
-          let at : k ≡ card = cc in
-          let r = told (oneNo st s) (one-number st s) (eqb-false (oneNo st s) 0 e) in
-          inl (omega arith, omega arith, omega arith, omega arith)
-
-  check-number : (look : ℕ → Entry) (ss : List (List ℕ)) (k : ℕ) (c : Course) → checkTwo look k c ss ≡ Bad number card → Told k (k + length ss) number card
-  unfolding checkTwo
-  check-number look [] k c h = let z : _≡_ {A = ℕ} 0 1 = cc in absurd (omega arith)
-  check-number look (s ∷ ss) k c h = go (eqb (twoNo look c s) 0) refl h (check-number look ss (k + 1) (stepTwo look c s))
-    where
-      go : (b : Bool) → eqb (twoNo look c s) 0 ≡ b → pick b (checkTwo look (k + 1) (stepTwo look c s) ss) (Bad (twoNo look c s) k) ≡ Bad number card
-          → (checkTwo look (k + 1) (stepTwo look c s) ss ≡ Bad number card → Told (k + 1) (k + 1 + length ss) number card)
-          → Told k (k + suc (length ss)) number card
-      go true e h ih = behind-first k (length ss) (ih h)
-      go false e h ih =
-          let is : twoNo look c s ≡ number = cc in
-          let at : k ≡ card = cc in
-          let r = told (twoNo look c s) (two-number look c s) (eqb-false (twoNo look c s) 0 e) in
-          inl (omega arith, omega arith, omega arith, omega arith)
-
 -- what the cards of a source are refused with: 9 to 24 at one of them, or 9 with card 0
 pub cards-number : (ss : List (List ℕ)) (number card : ℕ) → assembled ss ≡ refused number card
     → ((9 ≤ number) × (number ≤ 24) × (1 ≤ card) × (card ≤ length ss)) ⊎ ((number ≡ 9) × (card ≡ 0))
-unfolding assembled
-cards-number ss number card h = first (passOne 1 fresh ss) refl h
+cards-number ss number card h = go (rw h at (fate ss))
   where
-    Goal : Type 0
-    Goal = ((9 ≤ number) × (number ≤ 24) × (1 ≤ card) × (card ≤ length ss)) ⊎ ((number ≡ 9) × (card ≡ 0))
+    Told : ℕ → ℕ → Type 0
+    Told number card = ((9 ≤ number) × (number ≤ 24) × (1 ≤ card) × (card ≤ length ss)) ⊎ ((number ≡ 9) × (card ≡ 0))
 
-    all : (n k : ℕ) → n ≡ number → k ≡ card → Told 1 (1 + length ss) n k → Goal
-    all n k e f (inl (low, high, from, to)) = inl (omega arith, omega arith, omega arith, omega arith)
-    all n k e f (inr (x, y)) = inr (omega arith, omega arith)
+    first : (numberAt : ℕ → ℕ) → ((k : ℕ) → Number (numberAt k)) → (number card : ℕ) → FirstRefused 1 numberAt (length ss) number card → Told number card
+    first numberAt each number card x =
+        let (low, high) = told number (subst Number (x .here) (each (x .place))) (x .refuses) in
+        inl (low, high, omega arith, omega arith)
 
-    second : (st : State) (x : Checked) → checkTwo (find (st .names)) 1 outset ss ≡ x → afterTwo ss (st .names) x ≡ refused number card → Goal
-    second st Clean two h = let z : _≡_ {A = ℕ} 0 1 = cc in absurd (omega arith)
-    second st (Bad n k) two h = all n k (cc) (cc) (check-number n k (find (st .names)) ss 1 outset two)
-
-    first : (p : Passed) → passOne 1 fresh ss ≡ p → afterOne ss p ≡ refused number card → Goal
-    first (through st) one h = second st (checkTwo (find (st .names)) 1 outset ss) refl h
-    first (stopped n k) one h = all n k (cc) (cc) (pass-number n k ss 1 fresh one)
+    go : {number card : ℕ} → Fate ss (refused number card) → Told number card
+    go (byOne number card x) = first (oneAt fresh ss) (λ k. one-number _ _) number card x
+    go (noEnd each no-end) = inr (refl, refl)
+    go (byTwo each end number card x) = first (twoAt (lookIn ss) outset ss) (λ k. two-number _ _ _) number card x
 
 -- so the number is none of 1 to 3, and not 30
 pub cards-range : (ss : List (List ℕ)) (number card : ℕ) → assembled ss ≡ refused number card → (9 ≤ number) × (number ≤ 24) × (card ≤ length ss)

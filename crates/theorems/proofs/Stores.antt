@@ -9,10 +9,8 @@ use lib.Seq.{sets, getD-set-same, getD-set-other, drop-set-lt}
 
 pub sets-other : (m : List ℕ) (at : ℕ) (vs : List ℕ) (i : ℕ) → (i < at) ⊎ (at + length vs ≤ i) → getD (sets m at vs) i 0 ≡ getD m i 0
 sets-other m at [] i h = refl
-sets-other m at (v ∷ vs) i (inl h) =
-    sets-other (set m at v) (suc at) vs i (inl (omega arith)) ∙ getD-set-other m at i v 0 (λ e. omega arith)
-sets-other m at (v ∷ vs) i (inr h) =
-    sets-other (set m at v) (suc at) vs i (inr (omega arith)) ∙ getD-set-other m at i v 0 (λ e. omega arith)
+sets-other m at (v ∷ vs) i (inl h) = sets-other (set m at v) (suc at) vs i (inl (omega arith)) ∙ getD-set-other m at i v 0 (λ e. omega arith)
+sets-other m at (v ∷ vs) i (inr h) = sets-other (set m at v) (suc at) vs i (inr (omega arith)) ∙ getD-set-other m at i v 0 (λ e. omega arith)
 
 -- what lies behind a place that the run does not reach
 pub drop-sets : (m : List ℕ) (at : ℕ) (vs : List ℕ) (n : ℕ) → at + length vs ≤ n → drop n (sets m at vs) ≡ drop n m

@@ -11,7 +11,8 @@ use Rattle.operations.specs.declared.Operation.the-variants.{Start}
 use Rattle.lines.specs.declared.Line.{Line}
 use Rattle.lines.specs.declared.Reading.the-variants.{Statement}
 use Rattle.lines.specs.Lines.{readingOf}
-use Rattle.passes.specs.Cards.{startValue}
+use Rattle.forms.specs.Shape.{startOr}
+use Rattle.values.specs.declared.Displacement.{Displacement}
 
 -- THE PREMISE of demand 3
 
@@ -21,7 +22,7 @@ pub record Starting (s : List ℕ) (called at : ℕ) : Type 0 where
   pub reads : readingOf s ≡ Statement line
   pub operation : line .operation ≡ Start
   pub name : line .name ≡ called
-  pub value : startValue (line .shape) ≡ at
+  pub value : startOr (line .shape) 0 ≡ at
 
 -- two decks of cards, each card its statement columns, that agree on every card but START's; there the names agree, and the values are s and s + d
 pub record SameButStart (d : ℕ) (ss ts : List (List ℕ)) : Type 0 where
@@ -38,13 +39,13 @@ pub record SameButStart (d : ℕ) (ss ts : List (List ℕ)) : Type 0 where
 
 -- A BOOK MOVED BY d, as the loader moves it: entry and addresses d higher, d added to the listed fields of every text
 
-module _ (d : ℕ) where
+module _ (d : Displacement) where
   abbrev pub movedRecord : Record → Record
-  movedRecord r = record { card = r .card; address = r .address + d; fields = r .fields; text = movedText d r }
+  movedRecord r = record { card = r .card; address = r .address + d .0; fields = r .fields; text = movedText d r }
 
   abbrev pub movedEntry : Entry → Entry
   movedEntry Absent = Absent
-  movedEntry (At e) = At (record { 0 = e .0 + d })
+  movedEntry (At e) = At (record { 0 = e .0 + d .0 })
 
   abbrev pub movedBook : Book → Book
   movedBook b = record { entry = movedEntry (b .entry); records = map movedRecord (b .records) }
