@@ -19,7 +19,7 @@ longest-most Hexadecimal = omega arith
 longest-most Decimal = omega arith
 longest-most Address = omega arith
 
--- "length m (1 to 256)"
+-- R8.5: m is 1 to 256
 pub fits-length : (d : Data) → lengthFits d ≡ true → (1 ≤ d .length) × (d .length ≤ longest (d .kind)) × (d .length ≤ 256)
 unfolding lengthFits
 fits-length d e = go (leb 1 (d .length)) refl (leb (d .length) (longest (d .kind))) refl e

@@ -1,5 +1,5 @@
 -- The name of a line whose only expression came to v: its refusal 20, and the names behind the line.
-use Prim.Native.Nat.{ℕ, _<_}
+use Prim.Native.Nat.{ℕ, _<_, _^_}
 use mathlib.Core.List.{List}
 use mathlib.Core.Path.{_≡_}
 use lib.Dec.{eqb}
@@ -32,7 +32,7 @@ pub record Enters (names : List Name) (r : Role) (v : MaybeValue) (counter : ℕ
   pub new : ifNamed (l .name) (nameRefusal mostNames names (l .name)) ≡ 0
   pub low : ifNamed (l .name) (over (nameValueBy r v counter l)) ≡ 0
   pub short : nameLengthBy r (l .operation) (l .shape) < 65536
-  pub number : l .name < 281474976710656
+  pub number : l .name < 2 ^ 48
 
 -- a name more, where the line has one
 abbrev pub enteredBy : List Name → Role → MaybeValue → ℕ → Line → List Name

@@ -1,4 +1,4 @@
--- The table and the classes are those of document 01, by one computed test over all 256 bytes; and what readers of columns cite.
+-- The table and the classes are those of R2.2 and R2.3, by one computed test over all 256 bytes; and what readers of columns cite.
 use Prim.Native.Nat.{ℕ, zero, suc, _+_, _-_, _≤_, _<_}
 use Prim.Native.String.{String, [] as none, _∷_ as _then_}
 use mathlib.Core.List.{List, [], _∷_}
@@ -78,7 +78,7 @@ once b = pick (isAccepted (classOf b)) 1 0
 abbrev pub agrees : ℕ → Bool
 agrees b = pick (isAccepted (classOf b)) (ltb 0 (codeOf b)) (eqb (codeOf b) 0)
 
--- each accepted byte stands in the table once and no other does, as in document 01's list; its code is that of the list, wherever it is looked for
+-- R2.3: each accepted byte stands in the table once and no other does, as in the list; its code is that of the list, wherever it is looked for
 unfoldable pub right : ℕ → Bool
 right b =
     both (eqb (times table b) (once b))

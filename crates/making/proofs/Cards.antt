@@ -59,7 +59,7 @@ use Rattle.passes.specs.declared.Course.{Course}
 use Rattle.passes.specs.Cards.{operandsAt, valueAt, counterAfter}
 use Rattle.passes.specs.One.{sizesNo}
 use Rattle.passes.specs.Sound.{soundLine, soundReading}
-use Rattle.passes.specs.Two.{readingTwoNo, twoNo, constantPieces, dataPieces, shapePieces, linePieces, readingPieces, cardPieces, readingTwoStep, stepTwo, roleEntry, readingEntry, entryFrom}
+use Rattle.passes.specs.Two.{readingTwoNo, twoNo, dataPieces, shapePieces, linePieces, readingPieces, cardPieces, readingTwoStep, stepTwo, roleEntry, readingEntry, entryFrom}
 use Rattle.passes.proofs.Counter.{counter-most}
 use Rattle.making.specs.declared.Text.{Text}
 use Rattle.making.specs.declared.Sought.{Sought}
@@ -196,7 +196,7 @@ jump-short Jumps code reach = code-short code _ (λ q. code-short reach _ (λ b.
 jump-short Registers code reach = none-short
 jump-short Use.Nothing code reach = none-short
 
--- "m is 1 to 3": every copy has m bytes, and all together are at most 256
+-- R8.5, R8.11: every copy has m bytes, and all together are at most 256
 constants-short : (d : Data) (v : MaybeValue) → d .kind ≡ Address → constantNo d ≡ 0 → Short (constantsOf (d .copies) (d .length) v)
 unfolding dataSize
 constants-short d MaybeValue.Nothing k e = none-short

@@ -1,5 +1,5 @@
 -- Pass one over what it looks at of an operand is pass one; what a line that is let through enters; a turn over the cards.
-use Prim.Native.Nat.{ℕ, _+_, _-_, _*_, _/_, _≤_, _<_}
+use Prim.Native.Nat.{ℕ, _+_, _-_, _*_, _/_, _≤_, _<_, _^_}
 use mathlib.Core.List.{List}
 use mathlib.Core.Path.{_≡_, refl, sym, ap, _∙_}
 use native.Mathlib.Omega.{arith}
@@ -96,7 +96,7 @@ name-fits s (Statement l) e = line-within s l e .name
 
 -- A LINE THAT IS LET THROUGH
 
-pub line-enters : (st : State) (l : Line) (e : Early) → lineBy st l e ≡ 0 → l .name < 281474976710656
+pub line-enters : (st : State) (l : Line) (e : Early) → lineBy st l e ≡ 0 → l .name < 2 ^ 48
     → Enters (st .names) (roleOf (l .operation)) (e .value) (st .counter) l × (st .counter + sizeOf (l .operation) (l .shape) ≤ 65536)
 unfolding lineBy valueBy
 line-enters st l e h name =

@@ -1,5 +1,5 @@
 -- What pass one's own types stand for, and its rules over what it looks at of a card's operand.
-use Prim.Native.Nat.{ℕ, _≤_, _<_}
+use Prim.Native.Nat.{ℕ, _≤_, _<_, _^_}
 use mathlib.Core.List.{List}
 use mathlib.Core.Path.{_≡_}
 use mathlib.Core.Bool.{true}
@@ -76,7 +76,7 @@ valueBy st l e =
     (orElse (ifNamed (l .name) (overBy (roleOf (l .operation)) (e .value) (st .counter) l))
     (orElse (sizesNo (l .shape)) (roomNo (st .counter) (sizeOf (l .operation) (l .shape))))))
 
--- 12 to 15 before them
+-- R13.3: 12 to 15 before them
 unfoldable pub lineBy : State → Line → Early → ℕ
 lineBy st l e =
     orElse (operationNo (l .operation))
@@ -105,4 +105,4 @@ stepBy st (Statement l) e = lineStepBy st l e
 abbrev pub nameFits : Reading → Type 0
 nameFits Comment = Unit
 nameFits BadName = Unit
-nameFits (Statement l) = l .name < 281474976710656
+nameFits (Statement l) = l .name < 2 ^ 48

@@ -1,4 +1,4 @@
--- What a card does to the counter, in both passes; and what its name stands for.
+-- R7, R3.6: what a card does to the counter, in both passes; and what its name stands for.
 use Prim.Native.Nat.{ℕ, _+_, _-_}
 use mathlib.Core.List.{List}
 use Rattle.values.specs.declared.Value.the-variants.{Relocatable}
@@ -27,7 +27,7 @@ operandsAt look counter s l = operandsOf look counter (operandColumns s l) (l .s
 abbrev pub valueAt : (ℕ → Meaning) → ℕ → List ℕ → Line → MaybeValue
 valueAt look counter s l = loneValue (operandsAt look counter s l)
 
--- THE COUNTER behind a card whose only expression came to v: START's operand; ORG's operand, "which becomes the counter"; else behind the bytes of the card
+-- R7.1, R7.4, R7.6: THE COUNTER behind a card whose only expression came to v: START's operand; ORG's operand; else behind the bytes of the card
 abbrev pub counterBy : Role → MaybeValue → ℕ → Line → ℕ
 counterBy Starts v counter l = startOr (l .shape) counter
 counterBy Equates v counter l = counter
@@ -40,11 +40,11 @@ counterAfter look counter s l = counterBy (roleOf (l .operation)) (valueAt look 
 
 -- THE NAME
 
--- "A name on DC or DS is relocatable, its length m, its value the counter plus m minus 1: the last byte of the first copy, n = 0 included. On an instruction its value is the first byte"
+-- R8.15, R9.10: what a name names: the last byte of the first copy of DC or DS; the first byte of an instruction
 abbrev pub placeNamed : ℕ → Shape → ℕ
 placeNamed counter x = ofData x (λ d. counter + d .length - 1) counter
 
--- START's "name is relocatable, value the start"; "EQU gives its operand's value and kind"
+-- R7.4, R7.5: START's name is the start; EQU's has its operand's value and kind
 abbrev pub nameValueBy : Role → MaybeValue → ℕ → Line → MaybeValue
 nameValueBy Starts v counter l = Is (Relocatable (record { 0 = startOr (l .shape) counter }))
 nameValueBy Equates v counter l = v
@@ -52,11 +52,11 @@ nameValueBy SetsCounter v counter l = Is (Relocatable (record { 0 = counter }))
 nameValueBy Ends v counter l = Is (Relocatable (record { 0 = counter }))
 nameValueBy Advances v counter l = Is (Relocatable (record { 0 = placeNamed counter (l .shape) }))
 
--- the value of a line's name, before any limit
+-- R3.6: the value of a line's name, before any limit
 unfoldable pub nameValue : (ℕ → Meaning) → ℕ → List ℕ → Line → MaybeValue
 nameValue look counter s l = nameValueBy (roleOf (l .operation)) (valueAt look counter s l) counter l
 
--- START and EQU: "length 1"; DC and DS: m; an instruction: "its length is the instruction's"
+-- R7.4, R7.5, R8.15, R9.10: a name's length: 1 of START and EQU, m of DC and DS, that of the instruction
 abbrev pub fieldLength : Operation → Shape → ℕ
 fieldLength op x = ofData x (λ d. d .length) (sizeOf op x)
 

@@ -1,4 +1,4 @@
--- Pass one: "Pass one checks 9 to 17 and 24 on every card, 18 to 20 on EQU and ORG, 20 for names (not where m is out of range), and 21 for DC and DS."
+-- R13.2 to R13.4: pass one, its refusals on each card, and what it keeps between two cards.
 use Prim.Native.Nat.{ℕ, _+_}
 use mathlib.Core.List.{List, [], _∷_}
 use mathlib.Core.Bool.{Bool, true}
@@ -40,13 +40,13 @@ fresh = record { counter = 0; names = []; phase = Before }
 
 -- REFUSALS
 
--- 9: "a card after END"
+-- R12.3: 9, a card behind END
 abbrev pub afterEndNo : Phase → ℕ
 afterEndNo Before = 0
 afterEndNo Within = 0
 afterEndNo Ended = 9
 
--- 13: "START missing first, or again"
+-- R7.3: 13, no START first, or a second one
 abbrev pub againNo : Role → ℕ
 againNo Starts = 13
 againNo Equates = 0
@@ -66,7 +66,7 @@ startNo Before r = missingNo r
 startNo Within r = againNo r
 startNo Ended r = againNo r
 
--- "At most 512 names"
+-- R3.4: how many names there may be
 abbrev pub mostNames : ℕ
 mostNames = 512
 
@@ -74,7 +74,7 @@ mostNames = 512
 abbrev pub ifNamed : ℕ → ℕ → ℕ
 ifNamed name n = pick (eqb name 0) 0 n
 
--- "18 to 20 on EQU and ORG", over the names of earlier cards
+-- R7.7, R13.4: 18 to 20 of EQU and ORG, over the names of earlier cards
 abbrev pub earlyBy : Role → Operation → Operands → ℕ
 earlyBy Starts op x = 0
 earlyBy Equates op x = expressionsNo op x
@@ -85,11 +85,11 @@ earlyBy Advances op x = 0
 unfoldable pub earlyNo : (ℕ → Meaning) → ℕ → List ℕ → Line → ℕ
 earlyNo look counter s l = earlyBy (roleOf (l .operation)) (l .operation) (operandsAt look counter s l)
 
--- m is in its range, or the card has none
+-- R13.7: m is in its range, or the card has none
 abbrev pub mFits : Shape → Bool
 mFits x = ofData x lengthFits true
 
--- 20: "a name's value over 65535 included", "not where m is out of range"
+-- R3.7, R13.7: 20 of a name's value, where m is in its range
 abbrev pub amountOver : ℕ → ℕ
 amountOver n = pick (leb n 65535) 0 20
 
@@ -99,15 +99,15 @@ over v = withValue v (λ x. amountOver (amountOf x)) 0
 unfoldable pub overNo : (ℕ → Meaning) → ℕ → List ℕ → Line → ℕ
 overNo look counter s l = pick (mFits (l .shape)) (over (nameValue look counter s l)) 0
 
--- 21 of DC and DS
+-- R13.4: 21 of DC and DS
 abbrev pub sizesNo : Shape → ℕ
 sizesNo x = ofData x dataNo 0
 
--- 24: "counter past 65536"
+-- R7.2: 24, bytes beyond 65536
 abbrev pub roomNo : ℕ → ℕ → ℕ
 roomNo counter size = pick (leb (counter + size) 65536) 0 24
 
--- "the lowest number that holds" of 16 to 24
+-- R13.3: the lowest that holds of 16 to 24
 unfoldable pub valueNo : State → List ℕ → Line → ℕ
 valueNo st s l =
     orElse (ifNamed (l .name) (nameRefusal mostNames (st .names) (l .name)))
@@ -115,26 +115,26 @@ valueNo st s l =
     (orElse (ifNamed (l .name) (overNo (find (st .names)) (st .counter) s l))
     (orElse (sizesNo (l .shape)) (roomNo (st .counter) (sizeOf (l .operation) (l .shape))))))
 
--- 12 to 15 before them
+-- R13.3: 12 to 15 before them
 unfoldable pub lineNo : State → List ℕ → Line → ℕ
 lineNo st s l =
     orElse (operationNo (l .operation))
     (orElse (startNo (st .phase) (roleOf (l .operation)))
     (orElse (nameNo (l .operation) (l .name)) (orElse (shapeNo (l .shape)) (valueNo st s l))))
 
--- 11: "bad name"
+-- R3.1: 11, a bad name
 abbrev pub readingNo : State → List ℕ → Reading → ℕ
 readingNo st s Comment = 0
 readingNo st s BadName = 11
 readingNo st s (Statement l) = lineNo st s l
 
--- "9 goes before all else on its card"; then 10 over all its statement columns
+-- R13.3, R2.2: 9 before all others; then 10 over all statement columns
 unfoldable pub oneNo : State → List ℕ → ℕ
 oneNo st s = orElse (afterEndNo (st .phase)) (orElse (byteNo s) (readingNo st s (readingOf s)))
 
 -- WHAT A CARD DOES
 
--- a name is defined where it has a value
+-- R3.6: a name is defined where it has a value
 abbrev pub definedAs : ℕ → MaybeValue → ℕ → List Name → List Name
 definedAs number v length names = withValue v (λ x. defined (record { number = number; value = x; length = length }) names) names
 
@@ -173,7 +173,7 @@ pub data Passed : Type 0 where
   through : State → Passed
   stopped : ℕ → ℕ → Passed
 
--- 9: "no END (card 0)"
+-- R12.4: 9 with card 0 where END is missing
 abbrev pub endedAs : Phase → State → Passed
 endedAs Before st = stopped 9 0
 endedAs Within st = stopped 9 0

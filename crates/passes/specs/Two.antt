@@ -1,4 +1,4 @@
--- Pass two, over all names: "Pass two does the rest"; then the records and the entry of the book.
+-- R13.5: pass two, over all names; R16.3, R16.9, R12: the records and the entry of the book.
 use Prim.Native.Nat.{ℕ, _+_}
 use mathlib.Core.List.{List, [], _∷_, map}
 use lib.Dec.{eqb}
@@ -36,7 +36,7 @@ use Rattle.passes.specs.Cards.{operandsAt, valueAt, counterAfter}
 abbrev pub outset : Course
 outset = record { counter = 0; bases = record { one = Base.Idle; two = Base.Idle } }
 
--- REFUSALS 18 to 23. Those of EQU and ORG were tested by pass one, and come to the same again.
+-- R13.5: REFUSALS 18 to 23. Those of EQU and ORG were tested by pass one, and come to the same again.
 
 abbrev pub readingTwoNo : (ℕ → Meaning) → Course → List ℕ → Reading → ℕ
 readingTwoNo look c s Comment = 0
@@ -71,14 +71,14 @@ checkTwo look k c (s ∷ ss) = pick (eqb (twoNo look c s) 0) (checkTwo look (k +
 
 -- THE BOOK
 
--- what a constant's type makes of its pieces: C, X and D are told by the columns, A by its statement
+-- R8.7 to R8.9, R8.12: what a constant's type makes of its pieces: C, X and D are told by the columns, A by its statement
 abbrev pub constantPieces : DataType → List ℕ → List Piece → List Piece
 constantPieces Characters text ps = map plain text
 constantPieces Hexadecimal text ps = map plain text
 constantPieces Decimal text ps = map plain text
 constantPieces Address text ps = ps
 
--- DS makes none
+-- R8.2: DS makes none
 abbrev pub dataPieces : DataCard → DataType → List ℕ → List Piece → List Piece
 dataPieces Constant kind text ps = constantPieces kind text ps
 dataPieces Reserve kind text ps = []
@@ -103,7 +103,7 @@ cardPieces look c s = readingPieces look c s (readingOf s)
 abbrev pub recordOfPieces : ℕ → ℕ → List Piece → Record
 recordOfPieces card address ps = record { card = card; address = address; fields = fieldsOf ps; text = textOf ps }
 
--- "one record for each card that makes at least one byte, in card order"
+-- R16.3: a record for each card that makes a byte, in the order of the cards
 abbrev pub withRecord : ℕ → ℕ → List Piece → List Record → List Record
 withRecord card address [] rs = rs
 withRecord card address (p ∷ ps) rs = recordOfPieces card address (p ∷ ps) ∷ rs
@@ -112,7 +112,7 @@ unfoldable pub cardRecords : (ℕ → Meaning) → ℕ → Course → List (List
 cardRecords look k c [] = []
 cardRecords look k c (s ∷ ss) = withRecord k (c .counter) (cardPieces look c s) (cardRecords look (k + 1) (stepTwo look c s) ss)
 
--- "END takes a relocatable operand (the entry) or none"
+-- R12.1, R12.2: END's operand, the entry, or none
 abbrev pub entryOf : MaybeRelocatable → Entry
 entryOf (Is a) = At a
 entryOf Nothing = Absent

@@ -1,4 +1,4 @@
--- ACCEPTED EXACTLY WHEN (demand 1): "1, 2, 3; then pass one over the cards in order, then missing END, then pass two, then 30".
+-- ACCEPTED EXACTLY WHEN (R21.3), by the order of R13.1.
 use Prim.Native.Nat.{ℕ, zero, suc, _+_, _≤_}
 use mathlib.Core.List.{List, [], _∷_}
 use mathlib.Core.Bool.{Bool, true, false}

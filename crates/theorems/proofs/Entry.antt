@@ -1,4 +1,4 @@
--- THE ENTRY (demand 2): "END takes a relocatable operand (the entry) or none". END is the last card of an accepted source, and the book's entry is its operand.
+-- THE ENTRY (R21.3, R12.1, R12.2). END is the last card of an accepted source, and the book's entry is its operand, or none.
 use Prim.Native.Nat.{ℕ, zero, suc, _+_, _<_}
 use mathlib.Core.List.{List, [], _∷_}
 use mathlib.Core.Path.{_≡_, refl, sym, ap, _∙_}

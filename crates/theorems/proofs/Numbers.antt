@@ -1,4 +1,4 @@
--- "Numbers of refusal": what the two passes refuse with is 9 to 24.
+-- R14.1: what the two passes refuse with is 9 to 24.
 use Prim.Native.Nat.{ℕ, _+_, _≤_}
 use mathlib.Core.List.{List}
 use mathlib.Core.Bool.{Bool, true, false}

@@ -1,5 +1,5 @@
--- READABLE (demand 2): "loading puts exactly those bytes into storage". The book of an accepted source keeps the layout; reading its bytes gives its entry,
--- its records and nothing else ("Nothing follows");
+-- READABLE (R21.3). The book of an accepted source keeps the layout; reading its bytes gives its entry,
+-- its records and nothing else (R16.7);
 -- so loading it is never refused by 50.
 use Prim.Native.Nat.{ℕ, suc, _+_, _≤_, _<_}
 use mathlib.Core.List.{List, [], _∷_}

@@ -1,5 +1,5 @@
--- SUMS (demand 2): "so are invented byte and name counts, since each is a sum over cards or records".
--- "An accepted assembly returns the book's length and the count of names"; loading answers with "the bytes stored, overlaid ones counted each time".
+-- SUMS (R21.3): no count is made up, each is a sum over cards or records.
+-- R15.2: the book's length and the count of names; R17.9: the bytes stored.
 use Prim.Native.Nat.{ℕ, suc, _+_, _<_}
 use mathlib.Core.List.{List, [], _∷_}
 use mathlib.Core.Bool.{Bool, true, false}

@@ -1,4 +1,4 @@
--- Sums over cards and over records: "invented byte and name counts .. each is a sum over cards or records".
+-- R21.3: sums over cards and over records, which the counts answered must be.
 use Prim.Native.Nat.{ℕ, _+_}
 use mathlib.Core.List.{List, [], _∷_}
 use lib.ListN.{length}

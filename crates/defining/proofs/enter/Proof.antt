@@ -10,53 +10,37 @@ use Rattle.defining.proofs.Laws.{enters-room, entered-new, entered-none
 use borrow.Author.Needs.{needs}
 use Rattle.defining.proofs.enter.Statement.{statement}
 use Rattle.defining.proofs.enter.Tie as tie
-use Rattle.defining.proofs.enter.Reads as reads
-use Rattle.defining.proofs.enter.Lts as lts
-use Rattle.defining.proofs.name_length.Reads as name-length-reads
-use Rattle.defining.proofs.name_value.Reads as name-value-reads
-use Rattle.names.proofs.define.Reads as define-reads
 
--- src/lib.rt:103:9
 returns : tie.Need-returns
 returns c = let q = c .before .before .pre in ((rw (eq-eqb _ _ (c .if1 .taken)), q .0 .2), refl)
 
--- src/lib.rt:107:18
 name-length-requires : tie.Need-name-length-requires
 name-length-requires c κs = search needs
 
--- src/lib.rt:107:18
 cast-length : tie.Need-cast-length
 cast-length c = search needs
 
--- src/lib.rt:108:11
 name-value-requires : tie.Need-name-value-requires
 name-value-requires c κs = let a = c .before .before .before .args in if-named (a .l .name) _ (c .before .if1 .left) (c .before .before .before .pre .1 .low)
 
--- src/lib.rt:109:32
 enum-told : tie.Need-enum-told
 enum-told c = search needs
 
--- src/lib.rt:110:24
 enum-known-value : tie.Need-enum-known-value
 enum-known-value c = search needs
 
--- src/lib.rt:111:13
 define-requires : tie.Need-define-requires
 define-requires c κs = let a = c .before .before .before .before .before .before .before .before .args in let q = c .before .before .before .before .before .before .before .before .pre in let r = enters-room (a .count) (a .table .now) (a .role) (a .v) (a .counter) (a .l) (q .1) (c .before .before .before .before .before .before .if1 .left) in (omega arith, q .0 .1, q .1 .number)
 
--- src/lib.rt:120:13
 add-result : tie.Need-add-result
 add-result c = search needs
 
--- src/lib.rt:95:1
 returns-2 : tie.Need-returns-2
 returns-2 c = let a = c .before .before .before .before .before .before .args in let q = c .before .before .before .before .before .before .pre in ((entered-none (namesIn (a .count) (a .table .now)) (a .role) (a .v) (a .counter) (a .l) (c .before .before .before .before .if1 .left) (sym (c .enum-told .given .1) ∙ c .before .before .name-value .ensures), q .0 .2), refl)
 
--- src/lib.rt:95:1
 same-length : tie.Need-same-length
 same-length c = search needs
 
--- src/lib.rt:95:1
 returns-3 : tie.Need-returns-3
 returns-3 c = let a = c .before .before .before .before .before .before .before .before .before .before .before .args in let q = c .before .before .before .before .before .before .before .before .before .before .before .pre in let n = c .before .before .before .before .before .before .before .before .before .if1 .left in let d = c .before .before .define .ensures in
     let r = enters-room (a .count) (a .table .now) (a .role) (a .v) (a .counter) (a .l) (q .1) n in (

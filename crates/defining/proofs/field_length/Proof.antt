@@ -4,27 +4,19 @@ use mathlib.Core.Path.{_∙_}
 use borrow.Author.Needs.{needs}
 use Rattle.defining.proofs.field_length.Statement.{statement}
 use Rattle.defining.proofs.field_length.Tie as tie
-use Rattle.defining.proofs.field_length.Reads as reads
-use Rattle.defining.proofs.field_length.Lts as lts
-use Rattle.forms.proofs.size_of.Reads as size-of-reads
 
--- src/lib.rt:80:21
 enum-known-x : tie.Need-enum-known-x
 enum-known-x c = search needs
 
--- src/lib.rt:80:27
 cast-result : tie.Need-cast-result
 cast-result c = search needs
 
--- src/lib.rt:81:14
 size-of-requires : tie.Need-size-of-requires
 size-of-requires c κs = search needs
 
--- src/lib.rt:76:1
 returns : tie.Need-returns
 returns c = rw (c .before .before .x .given .1)
 
--- src/lib.rt:76:1
 returns-2 : tie.Need-returns-2
 returns-2 c = c .size-of .ensures ∙ no-data (c .before .before .args .x) _ _ (c .before .match .keys2)
 

@@ -13,19 +13,13 @@ use Rattle.passes.specs.Cards.{nameLengthBy}
 use borrow.Author.Needs.{needs}
 use Rattle.defining.proofs.name_length.Statement.{statement}
 use Rattle.defining.proofs.name_length.Tie as tie
-use Rattle.defining.proofs.name_length.Reads as reads
-use Rattle.defining.proofs.name_length.Lts as lts
-use Rattle.defining.proofs.field_length.Reads as field-length-reads
 
--- src/lib.rt:89:27
 enum-told : tie.Need-enum-told
 enum-told c = search needs
 
--- src/lib.rt:89:27
 field-length-requires : tie.Need-field-length-requires
 field-length-requires c κs = search needs
 
--- src/lib.rt:85:1
 returns : tie.Need-returns
 returns c = rw (c .before .enum-told .given .1) (c .field-length .ensures)
 
@@ -36,7 +30,6 @@ others SetsCounter op x k = refl
 others Ends op x k = refl
 others Advances op x k = absurd (miss (0 ∷ 1 ∷ 2 ∷ 3 ∷ []) 4 tt k)
 
--- src/lib.rt:85:1
 returns-2 : tie.Need-returns-2
 returns-2 c = others (c .before .args .role) (c .before .args .op) (c .before .args .x) (c .match .keys2)
 

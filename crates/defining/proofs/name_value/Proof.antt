@@ -1,7 +1,6 @@
 -- `name_value` meets its contract: EQU's value, or a place that is in range.
 use native.Mathlib.Omega.{arith}
-use mathlib.Core.Path.{_≡_, sym, ap, _∙_}
-use Prim.Native.Nat.{ℕ}
+use mathlib.Core.Path.{sym, ap, _∙_}
 use Rattle.values.specs.declared.Value.the-variants.{Relocatable}
 use Rattle.values.specs.declared.MaybeValue.the-variants.{Is}
 use Rattle.passes.specs.One.{over}
@@ -11,27 +10,19 @@ use Rattle.defining.proofs.Laws.{placed}
 use borrow.Author.Needs.{needs}
 use Rattle.defining.proofs.name_value.Statement.{statement}
 use Rattle.defining.proofs.name_value.Tie as tie
-use Rattle.defining.proofs.name_value.Reads as reads
-use Rattle.defining.proofs.name_value.Lts as lts
-use Rattle.defining.proofs.place_by.Reads as place-by-reads
 
--- src/lib.rt:67:26
 enum-told : tie.Need-enum-told
 enum-told c = search needs
 
--- src/lib.rt:69:25
 place-by-requires : tie.Need-place-by-requires
 place-by-requires c κs = search needs
 
--- src/lib.rt:69:25
 cast-place : tie.Need-cast-place
 cast-place c = let a = c .before .before .args in omega (arith, c .place-by .ensures, amount-low (placeBy (a .role) (a .counter) (a .l .shape)) (sym (ap over (placed (a .role) (a .v) (a .counter) (a .l) (c .before .match .keys2))) ∙ c .before .before .pre))
 
--- src/lib.rt:61:1
 returns : tie.Need-returns
 returns c = search needs
 
--- src/lib.rt:61:1
 returns-2 : tie.Need-returns-2
 returns-2 c = let a = c .before .before .args in ap (λ n. Is (Relocatable (record { 0 = n }))) (c .place-by .ensures) ∙ sym (placed (a .role) (a .v) (a .counter) (a .l) (c .before .match .keys2))
 

@@ -3,23 +3,16 @@ use Rattle.passes.proofs.Cases.{no-data}
 use borrow.Author.Needs.{needs}
 use Rattle.defining.proofs.place_named.Statement.{statement}
 use Rattle.defining.proofs.place_named.Tie as tie
-use Rattle.defining.proofs.place_named.Reads as reads
-use Rattle.defining.proofs.place_named.Lts as lts
-use Rattle.defining.proofs.last_byte.Reads as last-byte-reads
 
--- src/lib.rt:44:21
 enum-known-x : tie.Need-enum-known-x
 enum-known-x c = search needs
 
--- src/lib.rt:44:27
 last-byte-requires : tie.Need-last-byte-requires
 last-byte-requires c κs = search needs
 
--- src/lib.rt:40:1
 returns : tie.Need-returns
 returns c = rw (c .before .before .x .given .1) (c .last-byte .ensures)
 
--- src/lib.rt:40:1
 returns-2 : tie.Need-returns-2
 returns-2 c = no-data (c .before .args .x) _ _ (c .match .keys2)
 

@@ -1,31 +1,23 @@
 -- `entry_by` meets its contract: a relocatable value, or none.
 -- `entry_by` meets its contract: a relocatable value, or none.
-use mathlib.Core.Path.{_≡_, sym, ap, _∙_}
+use mathlib.Core.Path.{sym, ap, _∙_}
 use Rattle.passes.specs.Two.{entryOf}
 use borrow.Author.Needs.{needs}
 use Rattle.making.proofs.entry_by.Statement.{statement}
 use Rattle.making.proofs.entry_by.Tie as tie
-use Rattle.making.proofs.entry_by.Reads as reads
-use Rattle.making.proofs.entry_by.Lts as lts
-use Rattle.values.proofs.only_relocatable.Reads as only-relocatable-reads
 
--- src/lib.rt:111:11
 only-relocatable-requires : tie.Need-only-relocatable-requires
 only-relocatable-requires c κs = search needs
 
--- src/lib.rt:112:30
 enum-known-a : tie.Need-enum-known-a
 enum-known-a c = search needs
 
--- src/lib.rt:113:38
 enum-told : tie.Need-enum-told
 enum-told c = search needs
 
--- src/lib.rt:108:1
 returns : tie.Need-returns
 returns c = ap entryOf (sym (c .before .a .given .1) ∙ c .before .before .before .only-relocatable .ensures)
 
--- src/lib.rt:108:1
 returns-2 : tie.Need-returns-2
 returns-2 c = search needs
 

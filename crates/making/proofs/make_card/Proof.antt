@@ -8,47 +8,37 @@ use borrow.Author.Needs.{needs}
 use Rattle.making.proofs.make_card.Statement.{statement}
 use Rattle.making.proofs.make_card.Tie as tie
 
--- src/lib.rt:179:11
 read-line-requires : tie.Need-read-line-requires
 read-line-requires c κs = search needs
 
--- src/lib.rt:180:29
 enum-told : tie.Need-enum-told
 enum-told c = search needs
 
--- src/lib.rt:180:29
 make-none-requires : tie.Need-make-none-requires
 make-none-requires c κs = search needs
 
--- src/lib.rt:181:29
 enum-told-2 : tie.Need-enum-told-2
 enum-told-2 c = search needs
 
--- src/lib.rt:181:29
 make-none-requires-2 : tie.Need-make-none-requires-2
 make-none-requires-2 c κs = search needs
 
--- src/lib.rt:182:28
 enum-known-l : tie.Need-enum-known-l
 enum-known-l c = search needs
 
--- src/lib.rt:182:34
 make-line-requires : tie.Need-make-line-requires
 make-line-requires c κs = let p = c .before .before .before .before .before .before .pre in let e = sym (c .before .before .before .read-line .ensures) ∙ c .before .l .given .1 in
     let w = line-sound (c .before .l .given .0 .0) (sym (ap soundReading e) ∙ p .0 .0) .1 in
     ((e, omega arith), p .1)
 
--- src/lib.rt:174:1
 returns : tie.Need-returns
 unfolding cardMade
 returns c = rw (sym (c .before .before .before .read-line .ensures), c .before .enum-told .given .1) (c .make-none .ensures)
 
--- src/lib.rt:174:1
 returns-2 : tie.Need-returns-2
 unfolding cardMade
 returns-2 c = rw (sym (c .before .before .before .read-line .ensures), c .before .enum-told2 .given .1) (c .make-none2 .ensures)
 
--- src/lib.rt:174:1
 returns-3 : tie.Need-returns-3
 unfolding cardMade
 returns-3 c = rw (sym (c .before .before .before .before .read-line .ensures), c .before .before .l .given .1) (c .make-line .ensures)

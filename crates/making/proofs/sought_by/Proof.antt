@@ -13,19 +13,13 @@ use Rattle.making.specs.Steps.{soughtBy}
 use borrow.Author.Needs.{needs}
 use Rattle.making.proofs.sought_by.Statement.{statement}
 use Rattle.making.proofs.sought_by.Tie as tie
-use Rattle.making.proofs.sought_by.Reads as reads
-use Rattle.making.proofs.sought_by.Lts as lts
-use Rattle.making.proofs.entry_by.Reads as entry-by-reads
 
--- src/lib.rt:121:37
 enum-told : tie.Need-enum-told
 enum-told c = search needs
 
--- src/lib.rt:121:37
 entry-by-requires : tie.Need-entry-by-requires
 entry-by-requires c κs = search needs
 
--- src/lib.rt:117:1
 returns : tie.Need-returns
 returns c = rw (c .before .enum-told .given .1, c .entry-by .ensures)
 
@@ -36,7 +30,6 @@ others SetsCounter v k = refl
 others Ends v k = absurd (miss (0 ∷ 1 ∷ 2 ∷ 4 ∷ []) 3 tt k)
 others Advances v k = refl
 
--- src/lib.rt:117:1
 returns-2 : tie.Need-returns-2
 returns-2 c = others (c .before .args .role) (c .before .args .v) (c .match .keys2)
 

@@ -14,11 +14,9 @@ use borrow.Author.Needs.{needs}
 use Rattle.making.proofs.text_by.Statement.{statement}
 use Rattle.making.proofs.text_by.Tie as tie
 
--- src/lib.rt:78:30
 enum-told : tie.Need-enum-told
 enum-told c = search needs
 
--- src/lib.rt:74:1
 returns : tie.Need-returns
 returns c = rw (c .enum-told .given .1)
 
@@ -28,7 +26,6 @@ others Hexadecimal d st k = refl
 others Decimal d st k = refl
 others Address d st k = absurd (miss (0 ∷ 1 ∷ 2 ∷ []) 3 tt k)
 
--- src/lib.rt:74:1
 returns-2 : tie.Need-returns-2
 returns-2 c = others (c .before .args .kind) _ (c .before .args .st) (c .match .keys2)
 

@@ -3,23 +3,16 @@ use Rattle.passes.proofs.Cases.{no-data}
 use borrow.Author.Needs.{needs}
 use Rattle.making.proofs.text_from.Statement.{statement}
 use Rattle.making.proofs.text_from.Tie as tie
-use Rattle.making.proofs.text_from.Reads as reads
-use Rattle.making.proofs.text_from.Lts as lts
-use Rattle.making.proofs.text_of.Reads as text-of-reads
 
--- src/lib.rt:101:21
 enum-known-shape : tie.Need-enum-known-shape
 enum-known-shape c = search needs
 
--- src/lib.rt:104:13
 text-of-requires : tie.Need-text-of-requires
 text-of-requires c κs = search needs
 
--- src/lib.rt:97:1
 returns : tie.Need-returns
 returns c = rw (c .before .before .shape .given .1) (c .text-of .ensures)
 
--- src/lib.rt:97:1
 returns-2 : tie.Need-returns-2
 returns-2 c = no-data (c .before .args .shape) _ _ (c .match .keys2)
 

@@ -2,27 +2,19 @@
 use borrow.Author.Needs.{needs}
 use Rattle.making.proofs.text_of.Statement.{statement}
 use Rattle.making.proofs.text_of.Tie as tie
-use Rattle.making.proofs.text_of.Reads as reads
-use Rattle.making.proofs.text_of.Lts as lts
-use Rattle.making.proofs.text_by.Reads as text-by-reads
 
--- src/lib.rt:91:31
 enum-told : tie.Need-enum-told
 enum-told c = search needs
 
--- src/lib.rt:91:31
 text-by-requires : tie.Need-text-by-requires
 text-by-requires c κs = search needs
 
--- src/lib.rt:92:43
 enum-told-2 : tie.Need-enum-told-2
 enum-told-2 c = search needs
 
--- src/lib.rt:87:1
 returns : tie.Need-returns
 returns c = rw (c .before .enum-told .given .1) (c .text-by .ensures)
 
--- src/lib.rt:87:1
 returns-2 : tie.Need-returns-2
 returns-2 c = rw (c .enum-told2 .given .1)
 

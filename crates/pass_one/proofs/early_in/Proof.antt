@@ -15,19 +15,15 @@ use borrow.Author.Needs.{needs}
 use Rattle.pass_one.proofs.early_in.Statement.{statement}
 use Rattle.pass_one.proofs.early_in.Tie as tie
 
--- src/lib.rt:100:28
 enum-known-reading : tie.Need-enum-known-reading
 enum-known-reading c = search needs
 
--- src/lib.rt:100:34
 early-line-requires : tie.Need-early-line-requires
 early-line-requires c κs = let p = c .before .before .before .before .before .pre in let w = line-within _ _ (p .0 ∙ c .before .reading .given .1) in ((w .operand, w .end), p .1)
 
--- src/lib.rt:101:14
 no-early-requires : tie.Need-no-early-requires
 no-early-requires c κs = search needs
 
--- src/lib.rt:94:1
 returns : tie.Need-returns
 returns c = rw (c .before .before .reading .given .1) (c .early-line .ensures)
 
@@ -36,7 +32,6 @@ others Comment look counter s k = refl
 others BadName look counter s k = refl
 others (Statement l) look counter s k = absurd (miss (0 ∷ 1 ∷ []) 2 tt k)
 
--- src/lib.rt:94:1
 returns-2 : tie.Need-returns-2
 returns-2 c = let a = c .before .before .before .before .args in c .no-early .ensures ∙ others (a .reading) _ (a .counter) (a .card .now) (c .before .match .keys2)
 

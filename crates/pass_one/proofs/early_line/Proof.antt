@@ -17,19 +17,15 @@ use borrow.Author.Needs.{needs}
 use Rattle.pass_one.proofs.early_line.Statement.{statement}
 use Rattle.pass_one.proofs.early_line.Tie as tie
 
--- src/lib.rt:85:11
 role-of-requires : tie.Need-role-of-requires
 role-of-requires c κs = search needs
 
--- src/lib.rt:87:33
 operands-at-requires : tie.Need-operands-at-requires
 operands-at-requires c κs = search needs
 
--- src/lib.rt:87:13
 early-of-requires : tie.Need-early-of-requires
 early-of-requires c κs = search needs
 
--- src/lib.rt:89:14
 no-early-requires : tie.Need-no-early-requires
 no-early-requires c κs = search needs
 
@@ -40,7 +36,6 @@ looked SetsCounter op x k = refl
 looked Ends op x k = absurd (miss (1 ∷ 2 ∷ []) 3 tt k)
 looked Advances op x k = absurd (miss (1 ∷ 2 ∷ []) 4 tt k)
 
--- src/lib.rt:79:1
 returns : tie.Need-returns
 returns c = let a = c .before .before .before .before .before .before .args in let op = a .l .operation in c .early-of .ensures ∙ ap (earlyOf op) (c .before .operands-at .ensures) ∙ looked (c .before .before .before .role-of .result) op _ (c .before .before .match .keys1) ∙ ap (λ r. earlyFrom r op (operandsAt (find (namesIn (a .count) (a .table .now))) (a .counter) (a .card .now) (a .l))) (c .before .before .before .role-of .ensures)
 
@@ -51,7 +46,6 @@ others SetsCounter op x k = absurd (miss (0 ∷ 3 ∷ 4 ∷ []) 2 tt k)
 others Ends op x k = refl
 others Advances op x k = refl
 
--- src/lib.rt:79:1
 returns-2 : tie.Need-returns-2
 returns-2 c = let a = c .before .before .before .before .before .args in let op = a .l .operation in c .no-early .ensures ∙ others (c .before .before .role-of .result) op (operandsAt (find (namesIn (a .count) (a .table .now))) (a .counter) (a .card .now) (a .l)) (c .before .match .keys2) ∙ ap (λ r. earlyFrom r op (operandsAt (find (namesIn (a .count) (a .table .now))) (a .counter) (a .card .now) (a .l))) (c .before .before .role-of .ensures)
 

@@ -7,27 +7,21 @@ use borrow.Author.Needs.{needs}
 use Rattle.pass_one.proofs.line_step.Statement.{statement}
 use Rattle.pass_one.proofs.line_step.Tie as tie
 
--- src/lib.rt:182:9
 role-of-requires : tie.Need-role-of-requires
 role-of-requires c κs = search needs
 
--- src/lib.rt:183:9
 counter-by-requires : tie.Need-counter-by-requires
 counter-by-requires c κs = let a = c .before .before .args in let q = c .before .before .pre .1 in omega (arith, line-enters (standsFor (a .p) (a .table .now)) (a .l) (a .e) (q .0) (q .1) .1)
 
--- src/lib.rt:184:9
 phase-after-requires : tie.Need-phase-after-requires
 phase-after-requires c κs = search needs
 
--- src/lib.rt:185:9
 enter-requires : tie.Need-enter-requires
 enter-requires c κs = let a = c .before .before .before .before .before .args in let q = c .before .before .before .before .before .pre in ((q .0 .0, q .0 .1 .ordered, q .0 .1 .few), rw (c .before .before .before .role-of .ensures) (line-enters (standsFor (a .p) (a .table .now)) (a .l) (a .e) (q .1 .0) (q .1 .1) .0))
 
--- src/lib.rt:172:1
 same-length : tie.Need-same-length
 same-length c = search needs
 
--- src/lib.rt:172:1
 returns : tie.Need-returns
 returns c =
     let a = c .before .before .before .before .before .before .before .before .args in

@@ -7,27 +7,21 @@ use borrow.Author.Needs.{needs}
 use Rattle.pass_one.proofs.one_no.Statement.{statement}
 use Rattle.pass_one.proofs.one_no.Tie as tie
 
--- src/lib.rt:155:9
 after-end-no-requires : tie.Need-after-end-no-requires
 after-end-no-requires c κs = search needs
 
--- src/lib.rt:156:9
 byte-no-requires : tie.Need-byte-no-requires
 byte-no-requires c κs = search needs
 
--- src/lib.rt:157:9
 reading-no-requires : tie.Need-reading-no-requires
 reading-no-requires c κs = search needs
 
--- src/lib.rt:158:20
 or-else-requires : tie.Need-or-else-requires
 or-else-requires c κs = search needs
 
--- src/lib.rt:158:5
 or-else-requires-2 : tie.Need-or-else-requires-2
 or-else-requires-2 c κs = search needs
 
--- src/lib.rt:149:1
 returns : tie.Need-returns
 unfolding oneNo
 returns c = let a = c .before .before .before .before .before .before .before .args in let p = c .before .before .before .before .before .before .before .pre .1 in cc (read-no (standsFor (a .p) (a .table .now)) (a .card .now) (a .reading) (a .e) (p .0) (p .1))

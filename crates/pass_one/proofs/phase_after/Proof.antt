@@ -13,19 +13,15 @@ use borrow.Author.Needs.{needs}
 use Rattle.pass_one.proofs.phase_after.Statement.{statement}
 use Rattle.pass_one.proofs.phase_after.Tie as tie
 
--- src/lib.rt:165:25
 enum-told : tie.Need-enum-told
 enum-told c = search needs
 
--- src/lib.rt:166:23
 enum-told-2 : tie.Need-enum-told-2
 enum-told-2 c = search needs
 
--- src/lib.rt:161:1
 returns : tie.Need-returns
 returns c = search needs
 
--- src/lib.rt:161:1
 returns-2 : tie.Need-returns-2
 returns-2 c = search needs
 
@@ -36,7 +32,6 @@ others SetsCounter p k = refl
 others Ends p k = absurd (miss (1 ∷ 2 ∷ 4 ∷ []) 3 tt k)
 others Advances p k = refl
 
--- src/lib.rt:161:1
 returns-3 : tie.Need-returns-3
 returns-3 c = others (c .before .args .role) (c .before .args .p) (c .match .keys3)
 

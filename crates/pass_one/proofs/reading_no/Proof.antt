@@ -4,31 +4,24 @@ use borrow.Author.Needs.{needs}
 use Rattle.pass_one.proofs.reading_no.Statement.{statement}
 use Rattle.pass_one.proofs.reading_no.Tie as tie
 
--- src/lib.rt:142:29
 enum-told : tie.Need-enum-told
 enum-told c = search needs
 
--- src/lib.rt:143:29
 enum-told-2 : tie.Need-enum-told-2
 enum-told-2 c = search needs
 
--- src/lib.rt:144:28
 enum-known-reading : tie.Need-enum-known-reading
 enum-known-reading c = search needs
 
--- src/lib.rt:144:34
 line-no-requires : tie.Need-line-no-requires
 line-no-requires c κs = search needs
 
--- src/lib.rt:137:1
 returns : tie.Need-returns
 returns c = search needs
 
--- src/lib.rt:137:1
 returns-2 : tie.Need-returns-2
 returns-2 c = search needs
 
--- src/lib.rt:137:1
 returns-3 : tie.Need-returns-3
 returns-3 c = rw (c .before .before .reading .given .1) (c .line-no .ensures)
 

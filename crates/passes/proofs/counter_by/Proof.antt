@@ -13,53 +13,37 @@ use Rattle.passes.specs.Cards.{counterBy}
 use borrow.Author.Needs.{needs}
 use Rattle.passes.proofs.counter_by.Statement.{statement}
 use Rattle.passes.proofs.counter_by.Tie as tie
-use Rattle.passes.proofs.counter_by.Reads as reads
-use Rattle.passes.proofs.counter_by.Lts as lts
-use Rattle.forms.proofs.size_of.Reads as size-of-reads
-use Rattle.passes.proofs.amount_or.Reads as amount-or-reads
-use Rattle.passes.proofs.start_or.Reads as start-or-reads
 
--- src/lib.rt:88:25
 enum-told : tie.Need-enum-told
 enum-told c = search needs
 
--- src/lib.rt:88:25
 start-or-requires : tie.Need-start-or-requires
 start-or-requires c κs = search needs
 
--- src/lib.rt:89:30
 enum-told-2 : tie.Need-enum-told-2
 enum-told-2 c = search needs
 
--- src/lib.rt:89:30
 amount-or-requires : tie.Need-amount-or-requires
 amount-or-requires c κs = search needs
 
--- src/lib.rt:90:37
 enum-told-3 : tie.Need-enum-told-3
 enum-told-3 c = search needs
 
--- src/lib.rt:90:37
 size-of-requires : tie.Need-size-of-requires
 size-of-requires c κs = search needs
 
--- src/lib.rt:90:37
 cast-result : tie.Need-cast-result
 cast-result c = search needs
 
--- src/lib.rt:90:27
 add-result : tie.Need-add-result
 add-result c = search needs
 
--- src/lib.rt:81:1
 returns : tie.Need-returns
 returns c = rw (c .before .enum-told .given .1) (c .start-or .ensures)
 
--- src/lib.rt:81:1
 returns-2 : tie.Need-returns-2
 returns-2 c = rw (c .before .enum-told2 .given .1) (c .amount-or .ensures)
 
--- src/lib.rt:81:1
 returns-3 : tie.Need-returns-3
 returns-3 c = rw (c .before .enum-told3 .given .1, c .size-of .ensures)
 
@@ -71,7 +55,6 @@ others SetsCounter v n l k = absurd (miss (1 ∷ 3 ∷ []) 2 tt k)
 others Ends v n l k = refl
 others Advances v n l k = absurd (miss (1 ∷ 3 ∷ []) 4 tt k)
 
--- src/lib.rt:81:1
 returns-4 : tie.Need-returns-4
 returns-4 c = others (c .before .args .role) (c .before .args .v) (c .before .args .counter) (c .before .args .l) (c .match .keys4)
 

@@ -3,23 +3,16 @@ use Rattle.passes.proofs.Cases.{no-start}
 use borrow.Author.Needs.{needs}
 use Rattle.passes.proofs.start_or.Statement.{statement}
 use Rattle.passes.proofs.start_or.Tie as tie
-use Rattle.passes.proofs.start_or.Reads as reads
-use Rattle.passes.proofs.start_or.Lts as lts
-use Rattle.passes.proofs.widened.Reads as widened-reads
 
--- src/lib.rt:53:24
 enum-known-x : tie.Need-enum-known-x
 enum-known-x c = search needs
 
--- src/lib.rt:53:30
 widened-requires : tie.Need-widened-requires
 widened-requires c κs = search needs
 
--- src/lib.rt:49:1
 returns : tie.Need-returns
 returns c = search needs
 
--- src/lib.rt:49:1
 returns-2 : tie.Need-returns-2
 returns-2 c = no-start (c .before .args .x) (c .before .args .other) (c .match .keys2)
 

@@ -2,14 +2,10 @@
 use borrow.Author.Tests.{le-leb, lt-leb}
 use Rattle.defining.proofs.refusals.amount_over.Statement.{statement}
 use Rattle.defining.proofs.refusals.amount_over.Tie as tie
-use Rattle.defining.proofs.refusals.amount_over.Reads as reads
-use Rattle.defining.proofs.refusals.amount_over.Lts as lts
 
--- src/refusals.rt:83:1
 returns : tie.Need-returns
 returns c = rw (le-leb _ 65535 (c .if1 .taken))
 
--- src/refusals.rt:83:1
 returns-2 : tie.Need-returns-2
 returns-2 c = rw (lt-leb _ 65535 (c .if1 .left))
 

@@ -3,23 +3,16 @@ use Rattle.passes.proofs.Cases.{no-data}
 use borrow.Author.Needs.{needs}
 use Rattle.defining.proofs.refusals.m_fits.Statement.{statement}
 use Rattle.defining.proofs.refusals.m_fits.Tie as tie
-use Rattle.defining.proofs.refusals.m_fits.Reads as reads
-use Rattle.defining.proofs.refusals.m_fits.Lts as lts
-use Rattle.data.proofs.sizes.length_fits.Reads as length-fits-reads
 
--- src/refusals.rt:78:21
 enum-known-x : tie.Need-enum-known-x
 enum-known-x c = search needs
 
--- src/refusals.rt:78:27
 length-fits-requires : tie.Need-length-fits-requires
 length-fits-requires c κs = search needs
 
--- src/refusals.rt:74:1
 returns : tie.Need-returns
 returns c = rw (c .before .before .x .given .1) (c .length-fits .ensures)
 
--- src/refusals.rt:74:1
 returns-2 : tie.Need-returns-2
 returns-2 c = no-data (c .before .args .x) _ _ (c .match .keys2)
 

@@ -5,33 +5,22 @@ use Rattle.defining.proofs.Laws.{placed}
 use borrow.Author.Needs.{needs}
 use Rattle.defining.proofs.refusals.over_by.Statement.{statement}
 use Rattle.defining.proofs.refusals.over_by.Tie as tie
-use Rattle.defining.proofs.refusals.over_by.Reads as reads
-use Rattle.defining.proofs.refusals.over_by.Lts as lts
-use Rattle.defining.proofs.place_by.Reads as place-by-reads
-use Rattle.defining.proofs.refusals.amount_over.Reads as amount-over-reads
-use Rattle.defining.proofs.refusals.value_over.Reads as value-over-reads
 
--- src/refusals.rt:103:26
 enum-told : tie.Need-enum-told
 enum-told c = search needs
 
--- src/refusals.rt:103:26
 value-over-requires : tie.Need-value-over-requires
 value-over-requires c κs = search needs
 
--- src/refusals.rt:104:26
 place-by-requires : tie.Need-place-by-requires
 place-by-requires c κs = search needs
 
--- src/refusals.rt:104:14
 amount-over-requires : tie.Need-amount-over-requires
 amount-over-requires c κs = search needs
 
--- src/refusals.rt:98:1
 returns : tie.Need-returns
 returns c = search needs
 
--- src/refusals.rt:98:1
 returns-2 : tie.Need-returns-2
 returns-2 c = let a = c .before .before .before .args in c .amount-over .ensures ∙ ap amountOver (c .before .place-by .ensures) ∙ sym (ap over (placed (a .r) (a .v) (a .counter) (a .l) (c .before .before .match .keys2)))
 

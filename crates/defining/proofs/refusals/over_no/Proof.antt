@@ -4,28 +4,19 @@ use mathlib.Core.Path.{sym, _∙_}
 use borrow.Author.Needs.{needs}
 use Rattle.defining.proofs.refusals.over_no.Statement.{statement}
 use Rattle.defining.proofs.refusals.over_no.Tie as tie
-use Rattle.defining.proofs.refusals.over_no.Reads as reads
-use Rattle.defining.proofs.refusals.over_no.Lts as lts
-use Rattle.defining.proofs.refusals.m_fits.Reads as m-fits-reads
-use Rattle.defining.proofs.refusals.over_by.Reads as over-by-reads
 
--- src/refusals.rt:114:9
 returns : tie.Need-returns
 returns c = rw (eq-eqb _ _ (c .if1 .taken))
 
--- src/refusals.rt:116:9
 m-fits-requires : tie.Need-m-fits-requires
 m-fits-requires c κs = search needs
 
--- src/refusals.rt:117:9
 returns-2 : tie.Need-returns-2
 returns-2 c = rw (ne-eqb _ _ (c .before .before .if1 .left), sym (c .before .m-fits .ensures) ∙ not-true _ (c .if2 .taken))
 
--- src/refusals.rt:119:5
 over-by-requires : tie.Need-over-by-requires
 over-by-requires c κs = search needs
 
--- src/refusals.rt:109:1
 returns-3 : tie.Need-returns-3
 returns-3 c = rw (ne-eqb _ _ (c .before .before .before .if1 .left), sym (c .before .before .m-fits .ensures) ∙ not-false _ (c .before .if2 .left)) (c .over-by .ensures)
 

@@ -4,37 +4,25 @@ use Rattle.passes.specs.One.{amountOver}
 use borrow.Author.Needs.{needs}
 use Rattle.defining.proofs.refusals.value_over.Statement.{statement}
 use Rattle.defining.proofs.refusals.value_over.Tie as tie
-use Rattle.defining.proofs.refusals.value_over.Reads as reads
-use Rattle.defining.proofs.refusals.value_over.Lts as lts
-use Rattle.defining.proofs.refusals.amount_over.Reads as amount-over-reads
-use Rattle.values.proofs.amount_of.Reads as amount-of-reads
-use Rattle.values.proofs.words.wide16.Reads as wide16-reads
 
--- src/refusals.rt:93:24
 enum-known-v : tie.Need-enum-known-v
 enum-known-v c = search needs
 
--- src/refusals.rt:93:49
 amount-of-requires : tie.Need-amount-of-requires
 amount-of-requires c κs = search needs
 
--- src/refusals.rt:93:42
 wide16-requires : tie.Need-wide16-requires
 wide16-requires c κs = search needs
 
--- src/refusals.rt:93:30
 amount-over-requires : tie.Need-amount-over-requires
 amount-over-requires c κs = search needs
 
--- src/refusals.rt:94:32
 enum-told : tie.Need-enum-told
 enum-told c = search needs
 
--- src/refusals.rt:89:1
 returns : tie.Need-returns
 returns c = rw (c .before .before .before .before .v .given .1) (c .amount-over .ensures ∙ ap amountOver (c .before .wide16 .ensures .0 ∙ c .before .before .amount-of .ensures))
 
--- src/refusals.rt:89:1
 returns-2 : tie.Need-returns-2
 returns-2 c = search needs
 

@@ -14,11 +14,9 @@ use borrow.Author.Needs.{needs}
 use Rattle.making.proofs.records.put_made.Statement.{statement}
 use Rattle.making.proofs.records.put_made.Tie as tie
 
--- src/records.rt:106:9
 text-length-requires : tie.Need-text-length-requires
 text-length-requires c κs = search needs
 
--- src/records.rt:107:43
 text-count-requires : tie.Need-text-count-requires
 text-count-requires c κs = search needs
 
@@ -27,49 +25,39 @@ long : (x : Made) (to size count n : ℕ) → size ≡ textLength (x .text) → 
     → (to + n ≡ to + madeLength x) × (to + n ≤ to + 391)
 long x to size count n s k e = (ap (λ i. to + i) (e .0 ∙ ap (λ i. recordLength i count) s ∙ ap (recordLength (textLength (x .text))) k), let few = e .1 in omega arith)
 
--- src/records.rt:107:23
 record-length-requires : tie.Need-record-length-requires
 record-length-requires c κs = let a = c .before .before .before .before .args in let f = c .before .before .before .before .pre .0 .0 in let o = part (a .s .now) (a .x .from) (a .x .end - a .x .from) in let s = text-short (a .x .text) o (f .text) in let h = text-half (a .x .text) o (f .text) in (omega arith, omega arith)
 
--- src/records.rt:107:18
 add-behind : tie.Need-add-behind
 add-behind c = search needs
 
--- src/records.rt:110:30
 sub-put-record : tie.Need-sub-put-record
 sub-put-record c = search needs
 
--- src/records.rt:110:30
 part-put-record-start : tie.Need-part-put-record-start
 part-put-record-start c = search needs
 
--- src/records.rt:110:30
 part-put-record-end : tie.Need-part-put-record-end
 part-put-record-end c = search needs
 
--- src/records.rt:110:13
 put-record-requires : tie.Need-put-record-requires
 put-record-requires c κs = let p = c .before .before .before .before .before .before .before .before .before .pre in (p .0 .0 .text, rw (ne-eqb _ _ (λ z. c .before .before .if2 .taken (c .before .before .before .before .before .before .text-length .ensures ∙ z))) at (p .1 (c .before .before .before .if1 .taken)))
 
--- src/records.rt:89:1
 same-length : tie.Need-same-length
 same-length c = search needs
 
--- src/records.rt:89:1
 returns : tie.Need-returns
 returns c = let a = c .before .before .before .before .before .before .before .before .before .before .before .before .args in let f = c .before .before .before .before .before .before .before .before .before .before .before .before .pre .0 .0 in let o = part (a .s .now) (a .x .from) (a .x .end - a .x .from) in let size = c .before .before .before .before .before .before .before .before .before .text-length .ensures in (
   long (a .x) (a .to) _ _ _ size (c .before .before .before .before .before .before .before .before .text-count .ensures) (c .before .before .before .before .before .before .before .record-length .ensures),
   rw (c .before .before .before .before .before .before .if1 .taken) (c .before .before .put-record .ensures ∙ ap (sets (a .m .now) (a .to)) (sym (record-some (a .card) (a .address) (textPieces (a .x .text) o) (λ z. c .before .before .before .before .before .if2 .taken (size ∙ sym (length-is (a .x .text) o (f .text)) ∙ z))))),
 )
 
--- src/records.rt:89:1
 returns-2 : tie.Need-returns-2
 returns-2 c = let a = c .before .before .before .before .before .before .before .args in let f = c .before .before .before .before .before .before .before .pre .0 .0 in let o = part (a .s .now) (a .x .from) (a .x .end - a .x .from) in let size = c .before .before .before .before .text-length .ensures in (
   long (a .x) (a .to) _ _ _ size (c .before .before .before .text-count .ensures) (c .before .before .record-length .ensures),
   rw (c .before .if1 .taken) (ap (sets (a .m .now) (a .to)) (sym (record-none (a .card) (a .address) (textPieces (a .x .text) o) (length-is (a .x .text) o (f .text) ∙ sym size ∙ c .if2 .left)))),
 )
 
--- src/records.rt:89:1
 returns-3 : tie.Need-returns-3
 returns-3 c = let a = c .before .before .before .before .before .before .args in (long (a .x) (a .to) _ _ _ (c .before .before .before .text-length .ensures) (c .before .before .text-count .ensures) (c .before .record-length .ensures), rw (c .if1 .left))
 
