@@ -13,12 +13,9 @@ returns-2 : tie.Need-returns-2
 unfolding awayFrom
 returns-2 c = rw (le-leb _ _ (c .before .if1 .left), lt-leb _ _ (c .if2 .taken))
 
-cast-t7 : tie.Need-cast-t7
-cast-t7 c = search needs
-
 returns-3 : tie.Need-returns-3
 unfolding awayFrom
 returns-3 c = rw (le-leb _ _ (c .before .if1 .left), le-leb _ _ (c .if2 .left))
 
 pub away-from-spec : {M : Type 1} → statement M
-away-from-spec = tie.close (tie.spec returns returns-2 cast-t7 returns-3)
+away-from-spec = tie.close (tie.spec returns returns-2 (λ c. search needs) returns-3)
