@@ -3,11 +3,17 @@ use borrow.Author.Needs.{needs}
 use Rattle.places.proofs.using_base.Statement.{statement}
 use Rattle.places.proofs.using_base.Tie as tie
 
-enum-known-register : tie.Need-enum-known-register
-enum-known-register c = search needs
+absolute-in-requires : tie.Need-absolute-in-requires
+absolute-in-requires c κs = search needs
 
-enum-known-base : tie.Need-enum-known-base
-enum-known-base c = search needs
+enum-known-r : tie.Need-enum-known-r
+enum-known-r c = search needs
+
+value-in-requires : tie.Need-value-in-requires
+value-in-requires c κs = search needs
+
+enum-known-v : tie.Need-enum-known-v
+enum-known-v c = search needs
 
 with-base-requires : tie.Need-with-base-requires
 with-base-requires c κs = search needs
@@ -19,7 +25,7 @@ enum-told-2 : tie.Need-enum-told-2
 enum-told-2 c = search needs
 
 returns : tie.Need-returns
-returns c = rw (c .with-base .ensures, c .before .before .before .before .before .register .given .1, c .before .before .base .given .1)
+returns c = rw (c .with-base .ensures, ← c .before .before .before .before .before .before .before .before .absolute-in .ensures, c .before .before .before .before .before .before .r .given .1, ← c .before .before .before .before .value-in .ensures, c .before .before .v .given .1)
 
 returns-2 : tie.Need-returns-2
 returns-2 c = search needs
@@ -31,8 +37,10 @@ pub using-base-spec : {M : Type 1} → statement M
 using-base-spec =
     tie.close
     (tie.spec
-    enum-known-register
-    enum-known-base
+    absolute-in-requires
+    enum-known-r
+    value-in-requires
+    enum-known-v
     with-base-requires
     enum-told
     enum-told-2

@@ -6,6 +6,7 @@ use denote.Enum.Declared.{tagOf}
 use Rattle.operations.specs.declared.traits.Rule.{Rule}
 use Rattle.operations.proofs.traits.Rule.{the-type}
 use Rattle.values.specs.declared.MaybeAbsolute.{MaybeAbsolute}
+use Rattle.expressions.specs.Value.{absoluteIn}
 use Rattle.places.specs.declared.codes.Code.{Code}
 use Rattle.places.specs.Codes.{behindCode}
 use borrow.Author.Needs.{needs}
@@ -15,11 +16,17 @@ use Rattle.places.proofs.codes.behind_code.Tie as tie
 enum-told : tie.Need-enum-told
 enum-told c = search needs
 
+absolute-in-requires : tie.Need-absolute-in-requires
+absolute-in-requires c κs = search needs
+
 register-of-requires : tie.Need-register-of-requires
 register-of-requires c κs = search needs
 
 enum-told-2 : tie.Need-enum-told-2
 enum-told-2 c = search needs
+
+absolute-in-requires-2 : tie.Need-absolute-in-requires-2
+absolute-in-requires-2 c κs = search needs
 
 written-of-requires : tie.Need-written-of-requires
 written-of-requires c κs = search needs
@@ -45,15 +52,17 @@ others Rule.Written q k = absurd (miss (0 ∷ 1 ∷ 2 ∷ []) 4 tt k)
 others (Rule.Given given) q k = absurd (miss (0 ∷ 1 ∷ 2 ∷ []) 5 tt k)
 
 returns-4 : tie.Need-returns-4
-returns-4 c = others (c .before .args .rule) (c .before .args .q) (c .match .keys4)
+returns-4 c = others (c .before .args .rule) (absoluteIn (c .before .args .q)) (c .match .keys4)
 
 pub behind-code-spec : {M : Type 1} → statement M
 behind-code-spec =
     tie.close
     (tie.spec
     enum-told
+    absolute-in-requires
     register-of-requires
     enum-told-2
+    absolute-in-requires-2
     written-of-requires
     enum-known-rule
     returns
