@@ -1,5 +1,5 @@
--- Every row of the table comes to what it must, and document 01's sample deck is there at two starts: one computation over the definitions.
-use mathlib.Core.List.{[], _∷_, map}
+-- Every row of the table comes to what it must, and the sample deck of R20.2 is there at two starts: one computation over the definitions.
+use mathlib.Core.List.{[], map}
 use mathlib.Core.Path.{_≡_, refl}
 use mathlib.Core.Bool.{true}
 use Rattle.values.specs.Tests.{orElse, lower}

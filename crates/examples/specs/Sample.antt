@@ -1,4 +1,4 @@
--- Document 01's sample deck, by its START card.
+-- R20.2: the sample deck, by its START card.
 use Prim.Native.Nat.{ℕ}
 use Prim.Native.String.{String}
 use mathlib.Core.List.{List, [], _∷_, map}

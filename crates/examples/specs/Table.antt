@@ -1,4 +1,4 @@
--- Document 01, "Examples, [P] to be proved": one table of rows, each with what is written, the names, and what must come of it.
+-- R20.1: one table of rows, each with what is written, the names, and what must come of it.
 use Prim.Native.Nat.{ℕ, _-_}
 use Prim.Native.String.{String}
 use mathlib.Core.List.{List, [], _∷_, _++_, map}

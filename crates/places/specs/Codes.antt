@@ -38,7 +38,7 @@ registerCode q = pick (both (leb 1 q) (leb q 2)) (Byte q) OutOfRange
 unfoldable pub writtenCode : ℕ → Code
 writtenCode q = pick (leb q 255) (Byte q) OutOfRange
 
--- the absolute value of an item, or another value where no item is written
+-- R10.8: the absolute value of an item, or another value where no item is written
 abbrev pub itemOr : EvaluatedItem → MaybeAbsolute → MaybeAbsolute
 itemOr EvaluatedItem.Absent other = other
 itemOr (EvaluatedItem.Of e) other = absoluteIn e

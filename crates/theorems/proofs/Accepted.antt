@@ -1,4 +1,4 @@
--- ACCEPTED EXACTLY WHEN (demand 1): "1, 2, 3; then pass one over the cards in order, then missing END, then pass two, then 30".
+-- ACCEPTED EXACTLY WHEN (R21.3), by the order of R13.1.
 use Rattle.theorems.specs.Logic.{ℕ, zero, suc, _+_, _≤_, List, [], _∷_, Bool, true, false, _≡_, refl, sym, ap, _∙_, _⊎_, inl, inr, _↔_, arith, length, getD, eqb, eqb-true, eqb-false, add-zero}
 use Rattle.theorems.specs.Types.{Phase, Line, Reading, Book, clean, bad, State, through, stopped, Result, made, refused}
 use Rattle.names.specs.Names.{find}

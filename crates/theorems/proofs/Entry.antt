@@ -1,4 +1,4 @@
--- THE ENTRY (demand 2): "END takes a relocatable operand (the entry) or none". END is the last card of an accepted source, and the book's entry is its operand.
+-- THE ENTRY (R21.3, R12.1, R12.2). END is the last card of an accepted source, and the book's entry is its operand, or none.
 use Rattle.theorems.specs.Logic.{ℕ, zero, suc, _<_, List, [], _∷_, _⊎_, inl, inr, _≡_, refl, sym, ap, _∙_, arith, length, getD}
 use Rattle.theorems.specs.Types.{MaybeValue, Meaning, Entry, Line, Reading, Role, Phase, Course, Book, State, through, made}
 use Rattle.values.proofs.Laws.{clash}

@@ -1,5 +1,5 @@
--- FIELDS (demand 3). "count of relocatable fields .. their offsets, ascending by at least 2": for every card of an accepted source the list holds exactly the places of its two-byte values
--- that are relocatable, each once ("Empty field lists satisfy "no other place" but not "each once""); every other byte of its text stays what it is.
+-- FIELDS (R21.4, R16.6, R16.9): for every card of an accepted source the list holds exactly the places of its two-byte values
+-- that are relocatable, each once; every other byte of its text stays what it is.
 use Rattle.theorems.specs.Logic.{ℕ, zero, suc, _+_, _≤_, _<_, List, [], _∷_, _++_, map, List·Memᴰ, List·Memᴰ·cases-cons, List·Memᴰ·not-nil, Memᴰ·cast, List·Memᴰ·head, List·Memᴰ·tail, true, false, _≡_, refl, sym, ap, _∙_, subst, _⊎_, inl, inr, _↔_, add-zero, arith, length, getD, leb, sets, length-sets, leb-true}
 use Rattle.theorems.specs.Types.{Value, Relocatable as Place, Meaning, Displacement, Course, Record, Book, Piece, plain, value, made}
 use Rattle.values.proofs.Laws.{both-true}
@@ -74,7 +74,7 @@ fields-exact ps o = (there, back)
     back x =
         rw (x .pieces) (Memᴰ·cast (omega arith) (starts-listed (x .before) (x .place) (x .behind) 0))
 
--- "ascending by at least 2", so each once, and inside the text
+-- R16.6: ascending by 2 or more, so each once, and inside the text
 pub fields-ascend : (ps : List Piece) → fieldsFit 0 (length (textOf ps)) (fieldsOf ps) ≡ true
 fields-ascend ps = fields-fit ps 0 0 (length (textOf ps)) (omega arith) (omega arith)
 
@@ -241,7 +241,7 @@ module _ (look : ℕ → Meaning) (r : Record) where
 -- THE THEOREM, of an accepted source
 
 module _ (ss : List (List ℕ)) (n : ℕ) (b : Book) (h : assembled ss ≡ made n b) where
-  -- "one record for each card that makes at least one byte": a record stands in the book if and only if it is that of such a card
+  -- R16.3: a record stands in the book if and only if it is that of a card that makes a byte
   pub records-exact : (r : Record)
       → List·Memᴰ r (b .records) ↔ ((k : ℕ) × (k < length ss) × (1 ≤ makes (getD ss k [])) × (r ≡ cardRecord ss k))
   unfolding bookFrom

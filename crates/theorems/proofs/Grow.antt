@@ -1,4 +1,4 @@
--- THE PASSES AGREE (demand 2). "EQU and ORG use only names defined on earlier cards", and names only grow, so pass two finds there what pass one found:
+-- THE PASSES AGREE (R13.5). EQU and ORG use only earlier names (R7.7), and names only grow, so pass two finds there what pass one found:
 -- it refuses no EQU and no ORG, and its counter before every card is pass one's.
 use Rattle.theorems.specs.Logic.{ℕ, _+_, zero, suc, _≤_, _<_, List, [], _∷_, map, Bool, true, false, _≡_, refl, sym, ap, _∙_, subst, arith, eqb, eqb-true, _⊎_, inl, inr, length, getD}
 use Rattle.theorems.specs.Types.{Value, Term, Name, Meaning, Factor, Line, Reading, MaybeValue, Shape, Operands, Bases, Role, Course, Evaluated, Pattern, Addend, Read, State, through}
@@ -69,7 +69,7 @@ module _ (look more : ℕ → Meaning) (keeps : Keeps look more) (here : ℕ) wh
       let (a, b) = either-false (undefinedIn (addendFactors look here x .product)) (anyUnknown (map (addendFactors look here) xs)) e in
       rw (addend-kept x a, addends-kept xs b)
 
-  -- "EQU and ORG use only names defined on earlier cards": a value that was told over earlier names is the value over all names
+  -- R7.7: a value that was told over earlier names is the value over all names
   pub value-kept : (e : Read (List (Addend Placed))) (v : Value) → evaluated look here e ≡ Evaluated.Good v → evaluated more here e ≡ Evaluated.Good v
   unfolding evaluated
   value-kept (upTo xs q) v h = ap (λ ys. valueOf (sumOf ys)) (addends-kept xs (none-unknown (map (addendFactors look here) xs) v h)) ∙ h
@@ -104,7 +104,7 @@ step-keeps : (st : State) (s : List ℕ) → oneNo st s ≡ 0 → Keeps (find (s
 unfolding stepOne
 step-keeps st s e = let-through st s e (λ x. Keeps (find (st .names)) (find (readingStep st s x .names))) (λ k v n h. h) (λ l q f. names-keep st s l (f .new))
 
--- NAMES ONLY GROW over pass one ("name already defined" is 16): a name that was found at some card keeps its value and its length to the end
+-- R3.3: NAMES ONLY GROW over pass one: a name that was found at some card keeps its value and its length to the end
 pub names-grow : (ss : List (List ℕ)) (k : ℕ) (st a : State) → passOne k st ss ≡ through a → Keeps (find (st .names)) (find (a .names))
 names-grow [] k st a h name v n e = ap (λ (x : State). find (x .names) name) (pass-ended k st a h .0) ∙ e
 names-grow (s ∷ ss) k st a h name v n e =
@@ -221,7 +221,7 @@ behind-both a (suc n) (s ∷ ss) k st c h e low =
 -- THE THEOREMS, of a source that pass one goes through
 
 module _ (ss : List (List ℕ)) (a : State) (h : passOne 1 fresh ss ≡ through a) where
-  -- "name already defined" is 16: what was known of a name before a card is known of it at the end, value and length
+  -- R3.3: what was known of a name before a card is known of it at the end, value and length
   pub names-only-grow : (n : ℕ) → Keeps (find (behindOne n fresh ss .names)) (lookIn ss)
   names-only-grow n name v length e = ap (λ p. find (namesBy p) name) h ∙ behind-both a n ss 1 fresh outset h refl (omega arith) .2 name v length e
 
@@ -229,20 +229,20 @@ module _ (ss : List (List ℕ)) (a : State) (h : passOne 1 fresh ss ≡ through 
   pub same-counters : (n : ℕ) → counterTwo ss n ≡ counterOne ss n
   same-counters n = ap (λ p. behindTwo (find (namesBy p)) n outset ss .counter) h ∙ behind-both a n ss 1 fresh outset h refl (omega arith) .1
 
-  -- "counter past 65536" is 24: the bytes of every card end at 65536 at most
+  -- R7.2: the bytes of every card end at 65536 at most
   pub room : (n : ℕ) → n < length ss → counterTwo ss n + cardSize (getD ss n []) ≤ 65536
   room n i =
       card-room (behindOne n fresh ss) (lookIn ss) (names-only-grow n) (getD ss n []) (pass-each ss 1 fresh a h n i) (behindTwo (lookIn ss) n outset ss) (same-counters n)
       (behind-both a n ss 1 fresh outset h refl (omega arith) .0)
 
-  -- "EQU and ORG use only names defined on earlier cards": an expression that had a value in pass one has the same value in pass two
+  -- R7.7: an expression that had a value in pass one has the same value in pass two
   pub same-value-again : (n : ℕ) (e : Read (List (Addend Placed))) (v : Value) → evaluated (find (behindOne n fresh ss .names)) (counterOne ss n) e ≡ Evaluated.Good v
       → evaluated (lookIn ss) (counterTwo ss n) e ≡ Evaluated.Good v
   same-value-again n e v good =
       ap (λ here. evaluated (lookIn ss) here e) (same-counters n)
       ∙ value-kept (find (behindOne n fresh ss .names)) (lookIn ss) (names-only-grow n) (counterOne ss n) e v good
 
-  -- "Pass two does the rest": it refuses no EQU and no ORG
+  -- R13.5: pass two refuses no EQU and no ORG
   pub never-again : (k : ℕ) → k < length ss → (l : Line) → readingOf (getD ss k []) ≡ Reading.Statement l
       → (roleOf (l .operation) ≡ Role.Equates) ⊎ (roleOf (l .operation) ≡ Role.SetsCounter)
       → twoNo (lookIn ss) (behindTwo (lookIn ss) k outset ss) (getD ss k []) ≡ 0

@@ -1,5 +1,5 @@
--- REFUSED EXACTLY WHEN, of a load (demand 1): "Loading: 50, 51, 52, each over the whole book before the next".
--- "51 and 52 give the card of the first such record; 52 for the entry alone gives 0."
+-- REFUSED EXACTLY WHEN, of a load (R21.3). R17.4: 50, then 51, then 52, each over the whole book.
+-- R17.7, R17.8: 51 and 52 with the card of the first record that fails, 52 with 0 for the entry.
 use Rattle.theorems.specs.Logic.{ℕ, List, [], _∷_, List·Memᴰ, List·Memᴰ·cases-cons, List·Memᴰ·not-nil, List·Memᴰ·head, List·Memᴰ·tail, Bool, true, false, none, some, _≡_, refl, sym, ap, _∙_, _⊎_, inl, inr, _↔_, arith}
 use Rattle.theorems.specs.Types.{Displacement, Entry, Loaded, Record, Book}
 use Rattle.book.specs.Book.{bookOf}

@@ -112,7 +112,7 @@ jumps Use.Jumps = true
 jumps Use.Registers = false
 jumps Use.Nothing = false
 
--- "18 to 20 on EQU and ORG": pass one looks at their expressions
+-- R13.4: pass one looks at the expressions of EQU and ORG
 abbrev pub earlyRole : Role → Bool
 earlyRole Role.Starts = false
 earlyRole Role.Equates = true

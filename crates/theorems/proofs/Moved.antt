@@ -1,4 +1,4 @@
--- MOVED IS RAISED (demand 3). Two decks whose statement columns agree on every card but START's, where the names agree and the values are s and s + d;
+-- MOVED IS RAISED (R21.4). Two decks whose statement columns agree on every card but START's, where the names agree and the values are s and s + d;
 -- both are accepted. Then the counts of names agree, the second book is the first moved by d as the loader moves it,
 -- and loading the first by d and the second by 0 gives the same answer and the same storage, for every storage: 51 and 52 included, overlaid fields included.
 use Rattle.theorems.specs.Logic.{tt, ℕ, _+_, _≤_, List, [], _∷_, _++_, map, List·Memᴰ, Memᴰ·map, Bool, true, false, _≡_, refl, sym, ap, _∙_, subst, arith, length, getD, length-append, length-map, eqb}
@@ -72,7 +72,7 @@ module _ (d : ℕ) (before after : List (List ℕ)) (s t : List ℕ) (name at : 
       let (raised, same) = cards-raised d (a .names) after next (begunTwo at) usual (lower p₂) (rw names at (higher q₂)) in
       (names, rw (records, records′, names) raised, rw (entry, entry′, names) same)
 
--- "the displacement (unsigned, 16 bits)": d is one, since both values are
+-- R17.1: d is a displacement, since both values are 16 bits
 pub displacement-fits : (d : ℕ) (ss ts : List (List ℕ)) → SameButStart d ss ts → d ≤ 65535
 displacement-fits d ss ts same =
     let x = same .startsHigher in
@@ -115,7 +115,7 @@ module _ (d : ℕ) (ss ts : List (List ℕ)) (same : SameButStart d ss ts) (n m 
       let fits : entryFits (c .entry) ≡ true = rw (accepted-source ts m c accepted′ .book) (entry-fits (lookIn ts) ts outset) in
       rw (deck-books .2) (judged-same d (b .records) (c .records) (deck-books .1) storage (b .entry) (rw (deck-books .2) at fits))
 
-  -- "every other byte of its text is the same at every start value": each record of the first book is there in the second, of the same card,
+  -- R21.4: each record of the first book is there in the second, of the same card,
   -- with a text of the same length, and a byte of its text that is in no listed field is the same
   pub other-bytes-stay : (r : Record) → List·Memᴰ r (b .records)
       → (q : Record) × (List·Memᴰ q (c .records)) × (q .card ≡ r .card) × (q .fields ≡ r .fields) × (length (q .text) ≡ length (r .text))

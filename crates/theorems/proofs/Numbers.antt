@@ -1,4 +1,4 @@
--- "Numbers of refusal": what the two passes refuse with is 9 to 24.
+-- R14.1: what the two passes refuse with is 9 to 24.
 use Rattle.theorems.specs.Logic.{ℕ, _+_, _≤_, List, Bool, true, false, _≡_, refl, subst, _⊎_, inl, inr, arith, length, ltb, leb, eqb, eqb-true, leb-true}
 use Rattle.theorems.specs.Types.{Meaning, MaybeValue, MaybeAbsolute, Operation, Role, Naming, Use, DataCard, Data, EvaluatedItem, EvaluatedAddress, Operands, Bases, Placed, Code, Wanted, Evaluated, Shape, Line, Reading, Phase, Course, State, refused}
 use Rattle.values.proofs.Laws.{both-true}

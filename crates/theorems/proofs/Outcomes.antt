@@ -34,7 +34,7 @@ source-numbers width size = go (isWidth width) (eqb (size % width) 0) (leb (size
     go true false z = omega arith
     go false y z = omega arith
 
--- "at most 4,000"
+-- R1.3: at most 4,000 cards
 pub cards-few : (width : ℕ) (source : List ℕ) → sourceNo width (length source) ≡ 0 → length (cardsOf width source) ≤ 4000
 unfolding cardsOf
 cards-few width source e =
@@ -43,7 +43,7 @@ cards-few width source e =
     omega arith
 
 module _ (width : ℕ) (source work out : List ℕ) where
-  -- one way for each sentence of "Numbers of refusal" on the order: the answer, the work area, the output
+  -- R13.1: one way for each step of the order: the answer, the work area, the output
   pub data Way : Assembled → List ℕ → List ℕ → Type 0 where
     -- 1, 2 and 3
     atOnce : (number : ℕ) → 1 ≤ number → number ≤ 3 → Way (Assembled.Refused number 0) work out
@@ -124,7 +124,7 @@ module _ (width : ℕ) (source work out : List ℕ) where
       go (tooLong w) = cleared w
       go (whole w f n b e l) = cleared w
 
--- LOADING: "50, 51, 52, each over the whole book before the next"
+-- R17.4: LOADING: 50, then 51, then 52, each over the whole book
 
 module _ (s : List ℕ) (d : Displacement) (m : List ℕ) where
   -- the card of the first record outside storage, and of the first with a field over 65535

@@ -56,7 +56,7 @@ module _ (d : ℕ) (ns : List Name) (here : ℕ) where
         let (q₂, q₃) = lower-zero _ _ q₁ in
         rw (evaluated-raised Wanted.Any (expressionAt o (a .at)) p₀ q₀, item-raised (a .length) p₂ q₂, item-raised (a .register) p₃ q₃, implied-raised d ns (termAt o (a .at)))
 
-    -- "18 before 19 before 20 over all operands": none of them on either side
+    -- R13.6: none of 18, 19 and 20 on either side
     operands-raised : (op : Operation) (x : Shape) → expressionsNo op (operandsOf (find ns) here o x) ≡ 0
         → expressionsNo op (operandsOf (find up) (here + d) o x) ≡ 0
         → operandsOf (find up) (here + d) o x ≡ raisedOperands d (operandsOf (find ns) here o x)

@@ -205,7 +205,7 @@ module _ (d : ℕ) where
   jump-pieces Use.Registers c reach = refl
   jump-pieces Use.Nothing c reach = refl
 
-  -- "A relocatable value needs m = 2": of another length it is absolute and stays
+  -- R8.12: of another length than 2 it is absolute and stays
   address-pieces : (m : ℕ) (v : Value) → suits (constantWanted m) (kindOf v) ≡ true → addressPieces m (raisedValue d v) ≡ map (raisedPiece d) (addressPieces m v)
   unfolding addressPieces
   address-pieces m (Value.Absolute a) h = go (eqb m 1) (eqb m 3)

@@ -80,7 +80,7 @@ module _ (d : ℕ) where
         over-later by was (length w) os (record { 0 = word was (length w) + d }) to ∙ under,
       )
 
-  -- "add the displacement to the listed fields of the record's text" makes the text of the pieces raised; and no field is over (52)
+  -- R17.2: the displacement added to the listed fields of a text makes the text of the pieces raised; and no field is over (52)
   pub moved-pieces : (ps : List Piece) → Low (up ps) → movedIn by (textOf ps) (fieldsOf ps) (textOf ps) ≡ textOf (up ps)
   moved-pieces ps low = moved-behind ps [] [] refl low .0
 

@@ -1,4 +1,4 @@
--- THE LAW OF RAISING (demand 3). "Relocatable terms after plus (or first) minus those after minus: 0 is absolute, 1 is relocatable, anything else is 19":
+-- THE LAW OF RAISING (R21.4, R6.5):
 -- every relocatable name and the counter are raised by d.
 -- Kinds, undefined names and their positions stay, and so do refusals 18 and 19, whatever becomes of the value: no premise says that either run is accepted.
 -- Where both runs have a value, an absolute one stays and a relocatable one is d higher.

@@ -1,5 +1,5 @@
--- READABLE (demand 2): "loading puts exactly those bytes into storage". The book of an accepted source keeps the layout; reading its bytes gives its entry,
--- its records and nothing else ("Nothing follows");
+-- READABLE (R21.3). The book of an accepted source keeps the layout; reading its bytes gives its entry,
+-- its records and nothing else (R16.7);
 -- so loading it is never refused by 50.
 use Rattle.theorems.specs.Logic.{ℕ, suc, _+_, _≤_, _<_, List, [], _∷_, Bool, true, false, some, _≡_, refl, ap, _∙_, arith, length, getD, take, drop, sets, sets-eq, take-append-seam, le-leb}
 use Rattle.theorems.specs.Types.{clean, Value, Displacement, Meaning, Entry, Operation, Shape, Reading, Role, Course, MaybeValue, DataCard, Data, Pattern, Record, Book, Piece, State, through, made}

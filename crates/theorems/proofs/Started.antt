@@ -67,7 +67,7 @@ begins s l e h = rw e (go (roleOf (l .operation)) (fine fresh s l h .started))
 
 -- THE START CARD
 
--- behind START in pass one; "Its name is relocatable, value the start, length 1"
+-- R7.4: behind START in pass one, its counter and its name
 abbrev named : ℕ → ℕ → List Name
 named name at = pick (eqb name 0) [] (record { number = name; value = Relocatable (record { 0 = at }); length = 1 } ∷ [])
 
@@ -123,7 +123,7 @@ module _ (before : List (List ℕ)) (s : List ℕ) (after : List (List ℕ)) (na
   start-usual [] h = h .0
   start-usual (x ∷ xs) h = start-usual xs (h .1)
 
-  -- 13: "START missing first, or again"
+  -- R7.3: 13, no START first, or a second one
   start-again : (xs : List (List ℕ)) (k : ℕ) (st a : State) → Begun (st .phase) → passOne k st (xs ++ s ∷ after) ≡ through a → ⊥
   start-again xs k st a b h = line-again s (card .line) (card .reads) (card .operation) (start-usual xs (pass-usual (xs ++ s ∷ after) k st a b h))
 

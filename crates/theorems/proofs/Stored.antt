@@ -1,4 +1,4 @@
--- LOADED (demand 2): "loading puts exactly those bytes into storage". Each byte of a record's moved text is in storage at its place plus the displacement,
+-- LOADED (R21.3, R17.2). Each byte of a record's moved text is in storage at its place plus the displacement,
 -- where no later record overlays it; every other place is as it was (`storage-other`).
 use Rattle.theorems.specs.Logic.{ℕ, _+_, _≤_, _<_, List, [], _∷_, _++_, true, some, _≡_, ap, _∙_, arith, length, getD}
 use Rattle.theorems.specs.Types.{Displacement, Entry, Record, Book}

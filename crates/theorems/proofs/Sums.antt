@@ -1,5 +1,5 @@
--- SUMS (demand 2): "so are invented byte and name counts, since each is a sum over cards or records".
--- "An accepted assembly returns the book's length and the count of names"; loading answers with "the bytes stored, overlaid ones counted each time".
+-- SUMS (R21.3): no count is made up, each is a sum over cards or records.
+-- R15.2: the book's length and the count of names; R17.9: the bytes stored.
 use Rattle.theorems.specs.Logic.{ℕ, suc, _+_, _<_, List, [], _∷_, Bool, true, false, some, _≡_, refl, ap, _∙_, arith, length, getD, length-append, eqb}
 use Rattle.theorems.specs.Types.{Displacement, Name, Entry, Reading, Line, Course, Meaning, Record, Book, Piece, State, through, made}
 use Rattle.values.specs.Tests.{pick}

@@ -66,7 +66,7 @@ unfolding copied
 copied-low zero ps h = tt
 copied-low (suc n) ps h = low-append ps (copied n ps) h (copied-low n ps h)
 
--- "The 16-bit value is cut on the left for m = 1 and preceded by a zero byte for m = 3": m bytes
+-- R8.12: m bytes
 address-sized : (m : ℕ) (v : Value) → amountOf v < 65536 → 1 ≤ m → m ≤ 3 → Sized m (addressPieces m v)
 unfolding addressPieces textOf
 address-sized m v low l h = go (eqb m 1) refl (eqb m 3) refl
@@ -88,7 +88,7 @@ fields-fit (value (Value.Relocatable a) ∷ ps) at least size h k =
 
 -- PARTS OF A STATEMENT that are not refused
 
--- "Direct takes two bytes, indexed one"
+-- R9.6: two bytes where direct, one where indexed
 abbrev IsOperand : ℕ → Placed → Type 0
 IsOperand n p = (x : Operand) × (p ≡ Placed.At x) × Sized n (operandPieces x)
 

@@ -1,4 +1,4 @@
--- TOLD ONCE (demand 1). "For every input the contract determines the entire reply and each lent byte afterwards. Where two replies would satisfy it, they are shown equal":
+-- TOLD ONCE (R21.1, R21.2). The contracts settle the whole reply and every lent byte:
 -- two replies that meet a public contract are the same. And packing is one to one: two different answers are never packed to the same number.
 use Rattle.theorems.specs.Logic.{Unit, tt, ℕ, _+_, _*_, _^_, _≤_, _<_, List, [], _∷_, Bool, true, false, _≡_, refl, sym, ap, _∙_, arith, leb-true}
 use Rattle.theorems.specs.Types.{Displacement, Entry, Loaded, Assembled, Record}
@@ -38,7 +38,7 @@ Fits Loaded.Broken = Unit {0}
 Fits (Loaded.Outside card) = card ≤ 4000
 Fits (Loaded.Over card) = card ≤ 4000
 
--- "card number 1 to 4,000": that of the first record that fails is no higher
+-- R16.4: the card of the first record that fails is at most 4,000
 first-low : (fails : Record → Bool) (rs : List Record) (last : ℕ) → fairAll last rs ≡ true → firstCard fails rs ≤ 4000
 unfolding firstCard
 first-low fails [] last f = omega arith

@@ -1,6 +1,6 @@
--- REFUSED MEANS UNTOUCHED (demand 1). Assembling: "Output past the book is unchanged; all of it is on a refusal. The first 8,192 bytes of the work area are zero after every answer
--- but 1, 2 and 3, which leave it untouched; bytes beyond them never change." Loading: a refusal stores nothing; "Storage counts up to 65,536 bytes".
--- Printing: "writes REFUSED 50 and nothing else".
+-- REFUSED MEANS UNTOUCHED (R21.2). Assembling (R15.5, R15.6): a refusal leaves the output, an accepted call leaves what is past the book; the work area is cleared,
+-- but not by 1, 2 and 3. Loading (R17.3, R17.8): a refusal stores nothing, and what is behind 65,536 bytes stays.
+-- Printing (R18.1, R18.2): a refusal is one line and nothing else.
 use Rattle.values.specs.Tests.{pick}
 use Rattle.values.proofs.Laws.{both-true, clash}
 use Rattle.names.specs.Table.{zeroed}
@@ -82,7 +82,7 @@ module _ (width : ℕ) (source work out : List ℕ) where
   pub output-length : length (after .out) ≡ length out
   output-length = out-after width source work out (λ o. length o ≡ length out) refl (length-sets out 0)
 
-  -- 1, 2 and 3 leave the work area untouched
+  -- R15.6: 1, 2 and 3 leave the work area as it was
   pub early-work : (number card : ℕ) → after .answer ≡ Assembled.Refused number card → number ≤ 3 → after .work ≡ work
   early-work number card h low = go (rw h at (way width source work out)) low
     where
@@ -108,7 +108,7 @@ module _ (width : ℕ) (source work out : List ℕ) where
   pub work-length : length (after .work) ≡ length work
   work-length = work-after width source work out (λ w. length w ≡ length work) refl (λ w. zeroed-length workSize work w)
 
-  -- "A refusal returns its number and the card, 0 for 1, 2, 3, 30, 50 and no END": 9 to 24 with a card of the source, 9 with card 0 where there is no END
+  -- R14.2: 9 to 24 with a card of the source, 9 with card 0 where there is no END, the others with card 0
   abbrev pub Refusal : ℕ → ℕ → Type 0
   Refusal number card =
       ((1 ≤ number) × (number ≤ 3) × (card ≡ 0)) ⊎ (((9 ≤ number) × (number ≤ 24) × (1 ≤ card) × (card ≤ length (cardsOf width source)))
@@ -197,12 +197,12 @@ module _ (s : List ℕ) (d : Displacement) (m : List ℕ) where
 
 -- PRINTING
 
--- "writes REFUSED 50 and nothing else"
+-- R18.2: REFUSED 50 alone
 pub printed-50 : (s : List ℕ) → length s ≤ 65536 → bookOf s ≡ none → printed s ≡ refused50
 unfolding printed
 printed-50 s h e = rw (le-ltb 65536 (length s) h) (ap (linesOf s) e)
 
--- "REFUSED 57 for a longer input"
+-- R18.1: REFUSED 57 for a longer input
 pub printed-57 : (s : List ℕ) → 65536 < length s → printed s ≡ refused57
 unfolding printed
 printed-57 s h = rw (lt-ltb 65536 (length s) h)

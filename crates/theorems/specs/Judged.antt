@@ -1,4 +1,4 @@
--- How the records of a book are judged before a load: "51 and 52 give the card of the first such record; 52 for the entry alone gives 0".
+-- R17.4 to R17.8: how the records of a book are judged before a load: 51 and 52 by the first record that fails, 52 with card 0 for the entry.
 use Rattle.theorems.specs.Logic.{ℕ, _+_, List, _∷_, _++_, List·Memᴰ, Bool, true, false, _≡_, ltb}
 use Rattle.theorems.specs.Types.{Entry, Record}
 use Rattle.book.specs.declared.Entry.the-variants.{Absent, At}

@@ -8,7 +8,7 @@ use Rattle.lines.specs.declared.Reading.the-variants.{Statement}
 use Rattle.lines.specs.Lines.{readingOf}
 use Rattle.forms.specs.Shape.{startOr}
 
--- THE PREMISE of demand 3
+-- R21.4: THE PREMISE of demand 3
 
 -- a card that reads as START: its name, a number (0 where it has none), and its value (0 where its operand is absent)
 pub record Starting (s : List ℕ) (called at : ℕ) : Type 0 where

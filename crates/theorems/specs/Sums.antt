@@ -1,4 +1,4 @@
--- Sums over cards and over records: "invented byte and name counts .. each is a sum over cards or records".
+-- R21.3: sums over cards and over records, which the counts answered must be.
 use Rattle.theorems.specs.Logic.{ℕ, _+_, List, [], _∷_, length, eqb}
 use Rattle.theorems.specs.Types.{Reading, Record}
 use Rattle.values.specs.Tests.{pick}

@@ -1,4 +1,4 @@
--- Values of both kinds, values that may be missing, and the sum with a displacement.
+-- R5.1: values of both kinds, values that may be missing, and the sum with a displacement.
 use Prim.Native.Nat.{ℕ, _+_}
 use lib.Dec.{leb}
 use Rattle.values.specs.Tests.{pick}
@@ -45,6 +45,6 @@ onlyAbsolute v = withValue v absoluteOf MaybeAbsolute.Nothing
 abbrev pub onlyRelocatable : MaybeValue → MaybeRelocatable
 onlyRelocatable v = withValue v relocatableOf MaybeRelocatable.Nothing
 
--- a relocatable value plus a displacement, where that is at most 65535; only a relocatable value is moved
+-- R5.1: a relocatable value plus a displacement, where that is at most 65535; only a relocatable value is moved
 unfoldable pub movedBy : Displacement → Relocatable → Moved
 movedBy d v = pick (leb (v .0 + d .0) 65535) (To (record { 0 = v .0 + d .0 })) Over

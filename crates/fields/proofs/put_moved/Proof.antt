@@ -5,8 +5,8 @@ use Prim.Native.Nat.{ℕ, _+_, _-_, _≤_}
 use mathlib.Core.Path.{_≡_, refl, sym, ap, subst, _∙_}
 use mathlib.Core.List.{List, _∷_}
 use mathlib.Core.Bool.{false}
-use lib.ListN.{length, drop, drop-of-length-le}
-use Rattle.values.proofs.Laws.{clash, drop-turn, part-between, between-length}
+use lib.ListN.{length, drop, drop-of-length-le, length-take}
+use Rattle.values.proofs.Laws.{clash, drop-turn, part-between}
 use Rattle.book.specs.Reading.{recordThere}
 use Rattle.fields.specs.Fields.{overIn}
 use lib.Seq.{sets}
@@ -36,7 +36,7 @@ part-put-bytes-end : tie.Need-part-put-bytes-end Inv-loop μ-loop
 part-put-bytes-end c = search needs
 
 put-bytes-requires : tie.Need-put-bytes-requires Inv-loop μ-loop
-put-bytes-requires c κs = let a = c .before .before .before .before .before .args in rw (between-length (a .book .now) (a .p .text) (a .p .size) (c .before .before .before .before .before .pre .0 .text)) (c .before .before .before .before .before .pre .1 .1)
+put-bytes-requires c κs = rw (length-take _ _) (omega arith)
 
 laid : (c : tie.After-put-bytes Inv-loop μ-loop) → c .put-bytes .last .0 ≡ sets (c .before .before .before .before .before .before .args .m .now) (c .before .before .before .before .before .before .args .to) (recordThere (c .before .before .before .before .before .before .args .book .now) (c .before .before .before .before .before .before .args .p) .text)
 laid c = let a = c .before .before .before .before .before .before .args in c .put-bytes .ensures ∙ ap (λ t. sets (a .m .now) (a .to) t) (part-between (a .book .now) (a .p .text) (a .p .size))
@@ -93,7 +93,7 @@ add-put-word : tie.Need-add-put-word Inv-loop μ-loop
 add-put-word c = omega (arith, room (c .before .before .before .before .before))
 
 put-word-requires : tie.Need-put-word-requires Inv-loop μ-loop
-put-word-requires c κs = room (c .before .before .before .before .before)
+put-word-requires c κs = omega (arith, room (c .before .before .before .before .before))
 
 add-i : tie.Need-add-i Inv-loop μ-loop
 add-i c = omega arith

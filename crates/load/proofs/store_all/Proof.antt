@@ -86,7 +86,7 @@ put-moved-requires c κs =
     (gave _ _ _ _ _ (read (c .before .before .before .before .before .before .before)) .sound, (low .2, omega (arith, low .1)))
 
 add-count : tie.Need-add-count Inv-loop μ-loop
-add-count c = let short = gave _ _ _ _ _ (read (c .before .before .before .before .before .before .before .before .before .before .before)) .sound .short in let l = c .before .before .before .before .before .before .before .before .before .before .before .before .before .before .loop .inv in omega (arith, l .1, l .2)
+add-count c = let g = gave _ _ _ _ _ (read (c .before .before .before .before .before .before .before .before .before .before .before)) .sound in let short = g .short in let few = g .few in let l = c .before .before .before .before .before .before .before .before .before .before .before .before .before .before .loop .inv in omega (arith, l .1, l .2)
 
 loop-less : tie.Need-loop-less Inv-loop μ-loop
 loop-less c = let g = gave _ _ _ _ _ (read (c .before .before .before .before .before .before .before .before .before .before .before)) in omega (arith, g .on, g .within)
