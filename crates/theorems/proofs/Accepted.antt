@@ -1,23 +1,12 @@
 -- ACCEPTED EXACTLY WHEN (R21.3), by the order of R13.1.
-use Prim.Native.Nat.{ℕ, zero, suc, _+_, _≤_}
-use mathlib.Core.List.{List, [], _∷_}
-use mathlib.Core.Bool.{Bool, true, false}
-use mathlib.Core.Path.{_≡_, refl, sym, ap, _∙_}
-use mathlib.Core.Logic.{_⊎_, inl, inr, _↔_}
-use native.Mathlib.Omega.{arith}
-use lib.ListN.{length, getD}
-use lib.Dec.{eqb}
-use borrow.Author.Tests.{eqb-true, eqb-false}
-use native.Mathlib.Nat.{add-zero}
-use Rattle.book.specs.Book.{Book}
+use Rattle.theorems.specs.Logic.{ℕ, zero, suc, _+_, _≤_, List, [], _∷_, Bool, true, false, _≡_, refl, sym, ap, _∙_, _⊎_, inl, inr, _↔_, arith, length, getD, eqb, eqb-true, eqb-false, add-zero}
+use Rattle.theorems.specs.Types.{Phase, Line, Reading, Book, clean, bad, State, through, stopped, Result, made, refused}
 use Rattle.names.specs.Names.{find}
-use Rattle.passes.specs.declared.Phase.{Phase}
-use Rattle.passes.specs.Two.Checked.{clean, bad}
-use Rattle.passes.specs.One.{State, fresh, oneNo, stepOne, endedAs, passOne}
-use Rattle.passes.specs.One.Passed.{through, stopped}
+use Rattle.passes.specs.One.{readingNo, fresh, oneNo, stepOne, endedAs, passOne}
 use Rattle.passes.specs.Two.{outset, twoNo, stepTwo, checkTwo, bookFrom}
-use Rattle.passes.specs.Assembly.{Result, afterTwo, afterOne, assembled, Outcome, workSize, outcomeOf, assembling}
-use Rattle.passes.specs.Assembly.Result.{made, refused}
+use Rattle.passes.specs.Assembly.{afterTwo, afterOne, assembled, Outcome, workSize, outcomeOf, assembling}
+use Rattle.lines.specs.Lines.{readingOf}
+use Rattle.passes.proofs.Fine.{Fine, fine, one-zero}
 use Rattle.passes.proofs.Turns.{pass-more, pass-stop, pass-end, check-more, check-stop, check-end, pass-turn}
 use Rattle.values.proofs.Laws.{clash}
 use Rattle.names.specs.Table.{zeroed}
@@ -37,6 +26,16 @@ pass-ended k st a h = go (st .phase) (sym (pass-end k st) ∙ h)
     go Phase.Before h = clash (cc)
     go Phase.Within h = clash (cc)
     go Phase.Ended h = (cc, refl)
+
+-- a card that pass one lets through is a comment, or a line of which it refuses nothing
+pub let-through : (st : State) (s : List ℕ) → oneNo st s ≡ 0 → (P : Reading → Type 0) → P Reading.Comment
+    → ((l : Line) → readingOf s ≡ Reading.Statement l → Fine st s l → P (Reading.Statement l)) → P (readingOf s)
+let-through st s h P none line = go (readingOf s) refl (one-zero st s h .2)
+  where
+    go : (x : Reading) → readingOf s ≡ x → readingNo st s x ≡ 0 → P x
+    go Reading.Comment q h = none
+    go Reading.BadName q h = absurd (omega arith)
+    go (Reading.Statement l) q h = line l q (fine st s l h)
 
 with-first : (numberAt : ℕ → ℕ) (n : ℕ) → numberAt 0 ≡ 0 → NoneRefused (λ k. numberAt (suc k)) n → NoneRefused numberAt (suc n)
 with-first numberAt n e each zero i = e
@@ -122,22 +121,6 @@ module _ (ss : List (List ℕ)) where
       one : Walked oneNo stepOne passOne stopped pass-more pass-stop 1 fresh ss → Fate (afterOne ss (passOne 1 fresh ss))
       one (inl (each, e)) = ended each (endOne ss .phase) refl (e ∙ pass-end (1 + length ss) (endOne ss))
       one (inr (number, card, x, e)) = rw e (byOne number card x)
-
--- of an accepted source both passes went through, and the count and the book are theirs
-pub record Both (ss : List (List ℕ)) (n : ℕ) (b : Book) : Type 0 where
-  pub end : State
-  pub one : passOne 1 fresh ss ≡ through end
-  pub two : checkTwo (find (end .names)) 1 outset ss ≡ clean
-  pub count : n ≡ length (end .names)
-  pub book : b ≡ bookFrom (find (end .names)) ss
-
-pub both-passed : (ss : List (List ℕ)) (n : ℕ) (b : Book) → assembled ss ≡ made n b → Both ss n b
-both-passed ss n b h = go (rw h at (fate ss))
-  where
-    go : {n : ℕ} {b : Book} → Fate ss (made n b) → Both ss n b
-    go (both each end each′ e no-bad) =
-        let all : lookIn ss ≡ find (endOne ss .names) = ap (λ x. find (namesBy x)) e in
-        record { end = endOne ss; one = e; two = rw all at no-bad; count = refl; book = ap (λ look. bookFrom look ss) all }
 
 -- THE CARDS OF A SOURCE
 

@@ -1,14 +1,9 @@
 -- DEMAND 3, of the calls. Two sources whose statement columns agree on every card but START's, where the name fields agree and the values are s and s + d;
 -- each has its own work area and its own output, and both are accepted. Then both answers are the same, and for every storage loading the first book with d
 -- and the second with 0 gives the same answer and the same storage, a refusal included, overlaid fields included.
-use Prim.Native.Nat.{ℕ, _+_}
-use mathlib.Core.List.{List, [], _∷_, map}
-use mathlib.Core.Path.{_≡_, refl, sym, ap, _∙_}
-use mathlib.Core.Option.{some}
-use native.Mathlib.Omega.{arith}
-use lib.ListN.{take}
-use Rattle.values.specs.declared.Displacement.{Displacement}
-use Rattle.book.specs.Book.{Record, Book, bookOf}
+use Rattle.theorems.specs.Logic.{ℕ, _+_, List, [], _∷_, map, _≡_, refl, sym, ap, _∙_, some, arith, take}
+use Rattle.theorems.specs.Types.{Displacement, Record, Book}
+use Rattle.book.specs.Book.{bookOf}
 use Rattle.cards.specs.Source.{cardsOf}
 use Rattle.fields.proofs.Laws.{moved-length}
 use Rattle.load.specs.Load.{judged, ofBook, loading}

@@ -1,40 +1,23 @@
 -- FIELDS (R21.4, R16.6, R16.9): for every card of an accepted source the list holds exactly the places of its two-byte values
 -- that are relocatable, each once; every other byte of its text stays what it is.
-use Prim.Native.Nat.{ℕ, zero, suc, _+_, _≤_, _<_}
-use mathlib.Core.List.{List, [], _∷_, _++_, map, List·Memᴰ, List·Memᴰ·cases-cons, List·Memᴰ·not-nil, Memᴰ·cast}
-use mathlib.Core.List.List·Memᴰ.{List·Memᴰ·head, List·Memᴰ·tail}
-use mathlib.Core.Bool.{true, false}
-use mathlib.Core.Path.{_≡_, refl, sym, ap, _∙_, subst}
-use mathlib.Core.Logic.{_⊎_, inl, inr, _↔_}
-use native.Mathlib.Nat.{add-zero}
-use native.Mathlib.Omega.{arith}
-use lib.ListN.{length, getD}
-use lib.Dec.{leb}
-use lib.Seq.{sets, length-sets}
-use borrow.Author.Tests.{leb-true}
+use Rattle.theorems.specs.Logic.{ℕ, zero, suc, _+_, _≤_, _<_, List, [], _∷_, _++_, map, List·Memᴰ, List·Memᴰ·cases-cons, List·Memᴰ·not-nil, Memᴰ·cast, List·Memᴰ·head, List·Memᴰ·tail, true, false, _≡_, refl, sym, ap, _∙_, subst, _⊎_, inl, inr, _↔_, add-zero, arith, length, getD, leb, sets, length-sets, leb-true}
+use Rattle.theorems.specs.Types.{Value, Relocatable as Place, Meaning, Displacement, Course, Record, Book, Piece, plain, value, made}
 use Rattle.values.proofs.Laws.{both-true}
-use Rattle.values.specs.declared.Value.{Value}
-use Rattle.values.specs.declared.Relocatable.{Relocatable as Place}
 use Rattle.values.specs.Words.{word, twoBytes}
-use Rattle.names.specs.declared.Meaning.{Meaning}
-use Rattle.book.specs.Book.{Record, Book, fieldsFit}
-use Rattle.encode.specs.Pieces.{Piece, textOf, offsetsFrom, fieldsOf}
-use Rattle.encode.specs.Pieces.Piece.{plain, value}
+use Rattle.book.specs.Book.{fieldsFit}
+use Rattle.encode.specs.Pieces.{textOf, offsetsFrom, fieldsOf}
 use Rattle.fields.specs.Fields.{fieldIn, movedIn, movedText, overIn, overField}
 use Rattle.fields.proofs.Laws.{moved-low, moved-first, moved-none, moved-ways, under-first}
-use Rattle.values.specs.declared.Displacement.{Displacement}
 use Rattle.theorems.proofs.Texts.{some-text, fields-fit}
-use Rattle.theorems.proofs.Readable.{MadeTexts, made-texts}
-use Rattle.passes.specs.declared.Course.{Course}
+use Rattle.theorems.proofs.Readable.{Source, accepted-source}
 use Rattle.passes.specs.Two.{outset, stepTwo, cardPieces, recordOfPieces, withRecord, cardRecords, bookFrom}
 use Rattle.passes.specs.Assembly.{assembled}
-use Rattle.passes.specs.Assembly.Result.{made}
 use Rattle.theorems.specs.Grow.{behind, behindTwo, lookIn, counterOne, counterTwo}
 use Rattle.theorems.specs.Readable.{makes}
 use Rattle.theorems.specs.Fields.{piecesAt, cardRecord, FieldAt, Apart}
 use Rattle.theorems.specs.Raised.{raisedPiece}
 use Rattle.theorems.proofs.Grow.{same-counters}
-use Rattle.theorems.proofs.Stores.{sets-other, sets-there}
+use Rattle.theorems.proofs.Untouched.{sets-other, sets-there}
 
 -- THE OFFSETS OF PIECES
 
@@ -114,6 +97,10 @@ pub other-bytes : (d : Displacement) (r : Record) (i : ℕ) → Apart i (r .fiel
 other-bytes d r i apart = moved-other d (r .text) (r .fields) (r .text) i apart
 
 -- .. and where every value among the pieces is raised by d, a plain byte and an absolute value keep their bytes
+not-apart : (at n : ℕ) → n < 2 → (at + n < at) ⊎ (at + 2 ≤ at + n) → ⊥
+not-apart at n h (inl l) = omega arith
+not-apart at n h (inr l) = omega arith
+
 raised-behind : (d : ℕ) (ps : List Piece) (at i : ℕ) → Apart (at + i) (offsetsFrom at ps) → getD (textOf (map (raisedPiece d) ps)) i 0 ≡ getD (textOf ps) i 0
 unfolding textOf offsetsFrom
 raised-behind d [] at i apart = refl
@@ -122,16 +109,8 @@ raised-behind d (plain b ∷ ps) at (suc i) apart = let e : at + suc i ≡ at + 
 raised-behind d (value (Value.Absolute a) ∷ ps) at zero apart = refl
 raised-behind d (value (Value.Absolute a) ∷ ps) at (suc zero) apart = refl
 raised-behind d (value (Value.Absolute a) ∷ ps) at (suc (suc i)) apart = let e : at + suc (suc i) ≡ at + 2 + i = omega arith in raised-behind d ps (at + 2) i (rw e at apart)
-raised-behind d (value (Value.Relocatable a) ∷ ps) at zero apart = absurd (inside (apart at (List·Memᴰ·head refl)))
-  where
-    inside : (at + 0 < at) ⊎ (at + 2 ≤ at + 0) → ⊥
-    inside (inl h) = omega arith
-    inside (inr h) = omega arith
-raised-behind d (value (Value.Relocatable a) ∷ ps) at (suc zero) apart = absurd (inside (apart at (List·Memᴰ·head refl)))
-  where
-    inside : (at + 1 < at) ⊎ (at + 2 ≤ at + 1) → ⊥
-    inside (inl h) = omega arith
-    inside (inr h) = omega arith
+raised-behind d (value (Value.Relocatable a) ∷ ps) at zero apart = absurd (not-apart at 0 (omega arith) (apart at (List·Memᴰ·head refl)))
+raised-behind d (value (Value.Relocatable a) ∷ ps) at (suc zero) apart = absurd (not-apart at 1 (omega arith) (apart at (List·Memᴰ·head refl)))
 raised-behind d (value (Value.Relocatable a) ∷ ps) at (suc (suc i)) apart =
     let e : at + suc (suc i) ≡ at + 2 + i = omega arith in
     let later : Apart (at + suc (suc i)) (offsetsFrom (at + 2) ps) = λ o m. apart o (List·Memᴰ·tail m) in
@@ -268,8 +247,8 @@ module _ (ss : List (List ℕ)) (n : ℕ) (b : Book) (h : assembled ss ≡ made 
   unfolding bookFrom
   records-exact r = (there, back)
     where
-      x : MadeTexts ss b
-      x = made-texts ss n b h
+      x : Source ss n b
+      x = accepted-source ss n b h
 
       are : b .records ≡ cardRecords (lookIn ss) 1 outset ss
       are = ap (λ (x : Book). x .records) (x .book)

@@ -1,55 +1,31 @@
 -- THE PASSES AGREE (R13.5). EQU and ORG use only earlier names (R7.7), and names only grow, so pass two finds there what pass one found:
 -- it refuses no EQU and no ORG, and its counter before every card is pass one's.
-use Prim.Native.Nat.{ℕ, _+_, zero, suc, _≤_, _<_}
-use mathlib.Core.List.{List, [], _∷_, map}
-use mathlib.Core.Bool.{Bool, true, false}
-use mathlib.Core.Path.{_≡_, refl, sym, ap, _∙_, subst}
-use native.Mathlib.Omega.{arith}
-use lib.Dec.{eqb}
-use borrow.Author.Tests.{eqb-true}
-use mathlib.Core.Logic.{_⊎_, inl, inr}
-use lib.ListN.{length, getD}
+use Rattle.theorems.specs.Logic.{ℕ, _+_, zero, suc, _≤_, _<_, List, [], _∷_, map, Bool, true, false, _≡_, refl, sym, ap, _∙_, subst, arith, eqb, eqb-true, _⊎_, inl, inr, length, getD}
+use Rattle.theorems.specs.Types.{Value, Term, Name, Meaning, Factor, Line, Reading, MaybeValue, Shape, Operands, Bases, Role, Course, Evaluated, Pattern, Addend, Read, State, through}
 use Rattle.values.specs.Tests.{pick, orElse}
-use Rattle.values.specs.declared.Value.{Value}
-use Rattle.terms.specs.declared.Term.{Term}
-use Rattle.names.specs.declared.Name.{Name}
-use Rattle.names.specs.declared.Meaning.{Meaning}
 use Rattle.names.specs.Names.{find, defined, nameRefusal}
 use Rattle.names.proofs.Names.{find-defined, refusal-none}
-use Rattle.expressions.specs.declared.factors.Factor.{Factor}
-use Rattle.expressions.specs.Form.{Placed, Addend, Read, expressionAt}
+use Rattle.expressions.specs.Form.{Placed, expressionAt}
 use Rattle.expressions.specs.Form.Read.{upTo, fails}
 use Rattle.expressions.specs.Value.{meaningFactor, factorOf, placedFactor, addendFactors, anyUndefined, undefinedIn, anyUnknown, sumOf, byKind, valueOf, evaluated, valueIn}
-use Rattle.lines.specs.declared.Line.{Line}
-use Rattle.lines.specs.declared.Reading.{Reading}
 use Rattle.lines.specs.Lines.{readingOf, operandColumns, shapeNo}
 use Rattle.passes.specs.Cards.{nameValue, nameLength, operandsAt, counterBy, counterAfter, valueAt, nameValueBy}
-use Rattle.passes.specs.One.{definedAs, State, mostNames, ifNamed, readingNo, oneNo, namesAfter, readingStep, stepOne, passOne, fresh, earlyBy, earlyNo}
-use Rattle.passes.specs.One.Passed.{through}
+use Rattle.passes.specs.One.{definedAs, mostNames, ifNamed, readingNo, oneNo, namesAfter, readingStep, stepOne, passOne, fresh, earlyBy, earlyNo}
 use Rattle.passes.proofs.Turns.{pass-turn}
 use Rattle.passes.proofs.Fine.{fine, one-zero, Fine}
-use Rattle.values.specs.declared.MaybeValue.{MaybeValue}
 use Rattle.expressions.proofs.Laws.{accepted, Accepted}
-use Rattle.forms.specs.declared.Shape.{Shape}
-use Rattle.operands.specs.declared.Operands.{Operands}
-use Rattle.places.specs.declared.Bases.{Bases}
 use Rattle.operands.specs.Operands.{operandsOf}
 use Rattle.operands.specs.Kinds.{expressionsNo}
 use Rattle.places.specs.Codes.{codeOf}
 use Rattle.places.specs.Places.{placesNo}
 use Rattle.statements.specs.Statements.{loneValue, statementNo}
-use Rattle.operations.specs.declared.traits.Role.{Role}
-use Rattle.passes.specs.declared.Course.{Course}
 use Rattle.operations.specs.Traits.{roleOf, traitsOf, firstWanted}
 use Rattle.passes.specs.Two.{outset, readingTwoNo, twoNo, readingTwoStep, stepTwo}
 use Rattle.passes.proofs.Counter.{step-low}
-use Rattle.expressions.specs.declared.Evaluated.{Evaluated}
-use Rattle.operations.specs.declared.traits.Pattern.{Pattern}
 use Rattle.theorems.specs.Grow.{Keeps, behind, behindOne, behindTwo, namesBy, lookIn, counterOne, counterTwo, readingSize, cardSize}
 use Rattle.theorems.proofs.Raising.{either-false}
-use Rattle.theorems.proofs.Accepted.{pass-ended, pass-each}
+use Rattle.theorems.proofs.Accepted.{let-through, pass-ended, pass-each}
 use Rattle.theorems.proofs.Lines.{Has, line-has, earlyRole, Early, row-of}
-use Rattle.theorems.proofs.Lines.Has.{fails, lone}
 
 -- EXPRESSIONS
 
@@ -97,7 +73,7 @@ module _ (look more : ℕ → Meaning) (keeps : Keeps look more) (here : ℕ) wh
   pub value-kept : (e : Read (List (Addend Placed))) (v : Value) → evaluated look here e ≡ Evaluated.Good v → evaluated more here e ≡ Evaluated.Good v
   unfolding evaluated
   value-kept (upTo xs q) v h = ap (λ ys. valueOf (sumOf ys)) (addends-kept xs (none-unknown (map (addendFactors look here) xs) v h)) ∙ h
-  value-kept (fails q) v h = cc
+  value-kept (Read.fails q) v h = cc
 
 -- NAMES
 
@@ -126,12 +102,7 @@ names-keep st s l new = go (eqb (l .name) 0) new (nameValue (find (st .names)) (
 
 step-keeps : (st : State) (s : List ℕ) → oneNo st s ≡ 0 → Keeps (find (st .names)) (find (stepOne st s .names))
 unfolding stepOne
-step-keeps st s e = go (readingOf s) (one-zero st s e .2)
-  where
-    go : (x : Reading) → readingNo st s x ≡ 0 → Keeps (find (st .names)) (find (readingStep st s x .names))
-    go Reading.Comment e = λ k v n h. h
-    go Reading.BadName e = λ k v n h. h
-    go (Reading.Statement l) e = names-keep st s l (fine st s l e .new)
+step-keeps st s e = let-through st s e (λ x. Keeps (find (st .names)) (find (readingStep st s x .names))) (λ k v n h. h) (λ l q f. names-keep st s l (f .new))
 
 -- R3.3: NAMES ONLY GROW over pass one: a name that was found at some card keeps its value and its length to the end
 pub names-grow : (ss : List (List ℕ)) (k : ℕ) (st a : State) → passOne k st ss ≡ through a → Keeps (find (st .names)) (find (a .names))
@@ -158,8 +129,8 @@ module _ (st : State) (s : List ℕ) (l : Line) (reads : readingOf s ≡ Reading
     is-expression = go (rw (row .0) at (line-has s l reads)) (f .formed)
       where
         go : {x : Shape} → Has Pattern.Expression x → shapeNo x ≡ 0 → x ≡ Shape.Expression
-        go fails h = absurd (omega arith)
-        go lone h = refl
+        go Has.fails h = absurd (omega arith)
+        go Has.lone h = refl
 
     expression-fine : expressionsNo (l .operation) operands ≡ 0
     unfolding earlyNo
@@ -219,12 +190,9 @@ module _ (st : State) (s : List ℕ) (l : Line) (reads : readingOf s ≡ Reading
 module _ (st : State) (more : ℕ → Meaning) (keeps : Keeps (find (st .names)) more) (s : List ℕ) (e : oneNo st s ≡ 0) (c : Course) (same : c .counter ≡ st .counter) where
   pub card-counter : stepTwo more c s .counter ≡ stepOne st s .counter
   unfolding stepTwo stepOne
-  card-counter = go (readingOf s) refl (one-zero st s e .2)
-    where
-      go : (x : Reading) → readingOf s ≡ x → readingNo st s x ≡ 0 → readingTwoStep more c s x .counter ≡ readingStep st s x .counter
-      go Reading.Comment q h = same
-      go Reading.BadName q h = same
-      go (Reading.Statement l) q h = ap (λ (n : ℕ). counterAfter more n s l) same ∙ line-counter st s l q (fine st s l h) more keeps
+  card-counter =
+      let-through st s e (λ x. readingTwoStep more c s x .counter ≡ readingStep st s x .counter) same
+      (λ l q f. ap (λ (n : ℕ). counterAfter more n s l) same ∙ line-counter st s l q f more keeps)
 
   card-again : (l : Line) → readingOf s ≡ Reading.Statement l → earlyRole (roleOf (l .operation)) ≡ true → twoNo more c s ≡ 0
   unfolding twoNo
@@ -235,54 +203,37 @@ module _ (st : State) (more : ℕ → Meaning) (keeps : Keeps (find (st .names))
 
   pub card-room : st .counter ≤ 65536 → c .counter + cardSize s ≤ 65536
   unfolding cardSize
-  card-room low = go (readingOf s) (one-zero st s e .2)
-    where
-      go : (x : Reading) → readingNo st s x ≡ 0 → c .counter + readingSize x ≤ 65536
-      go Reading.Comment h = omega arith
-      go Reading.BadName h = absurd (omega arith)
-      go (Reading.Statement l) h = let r = fine st s l h .room in omega arith
+  card-room low = let-through st s e (λ x. c .counter + readingSize x ≤ 65536) (omega arith) (λ l q f. let r = f .room in omega arith)
 
 -- ALL CARDS
 
-module _ (a : State) where
-  behind-low : (n : ℕ) (ss : List (List ℕ)) (k : ℕ) (st : State) → passOne k st ss ≡ through a → st .counter ≤ 65536 → behindOne n st ss .counter ≤ 65536
-  unfolding behind
-  behind-low zero ss k st h low = low
-  behind-low (suc n) [] k st h low = low
-  behind-low (suc n) (s ∷ ss) k st h low = let t = pass-turn k st a s ss h in behind-low n ss (k + 1) (stepOne st s) (t .1) (step-low st s (t .0) low)
-
-  behind-same : (n : ℕ) (ss : List (List ℕ)) (k : ℕ) (st : State) (c : Course) → passOne k st ss ≡ through a → c .counter ≡ st .counter
-      → behindTwo (find (a .names)) n c ss .counter ≡ behindOne n st ss .counter
-  unfolding behind
-  behind-same zero ss k st c h e = e
-  behind-same (suc n) [] k st c h e = e
-  behind-same (suc n) (s ∷ ss) k st c h e =
-      let t = pass-turn k st a s ss h in
-      behind-same n ss (k + 1) (stepOne st s) (stepTwo (find (a .names)) c s) (t .1)
-      (card-counter st (find (a .names)) (names-grow (s ∷ ss) k st a h) s (t .0) c e)
-
-  behind-keeps : (n : ℕ) (ss : List (List ℕ)) (k : ℕ) (st : State) → passOne k st ss ≡ through a → Keeps (find (behindOne n st ss .names)) (find (a .names))
-  unfolding behind
-  behind-keeps zero ss k st h = names-grow ss k st a h
-  behind-keeps (suc n) [] k st h = names-grow [] k st a h
-  behind-keeps (suc n) (s ∷ ss) k st h = behind-keeps n ss (k + 1) (stepOne st s) (pass-turn k st a s ss h .1)
+-- the counter is low enough, pass two has it too, and the names only grow
+behind-both : (a : State) (n : ℕ) (ss : List (List ℕ)) (k : ℕ) (st : State) (c : Course) → passOne k st ss ≡ through a → c .counter ≡ st .counter → st .counter ≤ 65536
+    → (behindOne n st ss .counter ≤ 65536) × (behindTwo (find (a .names)) n c ss .counter ≡ behindOne n st ss .counter) × Keeps (find (behindOne n st ss .names)) (find (a .names))
+unfolding behind
+behind-both a zero ss k st c h e low = (low, e, names-grow ss k st a h)
+behind-both a (suc n) [] k st c h e low = (low, e, names-grow [] k st a h)
+behind-both a (suc n) (s ∷ ss) k st c h e low =
+    let t = pass-turn k st a s ss h in
+    behind-both a n ss (k + 1) (stepOne st s) (stepTwo (find (a .names)) c s) (t .1)
+    (card-counter st (find (a .names)) (names-grow (s ∷ ss) k st a h) s (t .0) c e) (step-low st s (t .0) low)
 
 -- THE THEOREMS, of a source that pass one goes through
 
 module _ (ss : List (List ℕ)) (a : State) (h : passOne 1 fresh ss ≡ through a) where
   -- R3.3: what was known of a name before a card is known of it at the end, value and length
   pub names-only-grow : (n : ℕ) → Keeps (find (behindOne n fresh ss .names)) (lookIn ss)
-  names-only-grow n name v length e = ap (λ p. find (namesBy p) name) h ∙ behind-keeps a n ss 1 fresh h name v length e
+  names-only-grow n name v length e = ap (λ p. find (namesBy p) name) h ∙ behind-both a n ss 1 fresh outset h refl (omega arith) .2 name v length e
 
   -- the counter of pass two before every card is the counter that pass one had there
   pub same-counters : (n : ℕ) → counterTwo ss n ≡ counterOne ss n
-  same-counters n = ap (λ p. behindTwo (find (namesBy p)) n outset ss .counter) h ∙ behind-same a n ss 1 fresh outset h refl
+  same-counters n = ap (λ p. behindTwo (find (namesBy p)) n outset ss .counter) h ∙ behind-both a n ss 1 fresh outset h refl (omega arith) .1
 
   -- R7.2: the bytes of every card end at 65536 at most
   pub room : (n : ℕ) → n < length ss → counterTwo ss n + cardSize (getD ss n []) ≤ 65536
   room n i =
       card-room (behindOne n fresh ss) (lookIn ss) (names-only-grow n) (getD ss n []) (pass-each ss 1 fresh a h n i) (behindTwo (lookIn ss) n outset ss) (same-counters n)
-      (behind-low a n ss 1 fresh h (omega arith))
+      (behind-both a n ss 1 fresh outset h refl (omega arith) .0)
 
   -- R7.7: an expression that had a value in pass one has the same value in pass two
   pub same-value-again : (n : ℕ) (e : Read (List (Addend Placed))) (v : Value) → evaluated (find (behindOne n fresh ss .names)) (counterOne ss n) e ≡ Evaluated.Good v

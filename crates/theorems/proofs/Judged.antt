@@ -1,26 +1,16 @@
 -- REFUSED EXACTLY WHEN, of a load (R21.3). R17.4: 50, then 51, then 52, each over the whole book.
 -- R17.7, R17.8: 51 and 52 with the card of the first record that fails, 52 with 0 for the entry.
-use Prim.Native.Nat.{ℕ}
-use mathlib.Core.List.{List, [], _∷_, List·Memᴰ, List·Memᴰ·cases-cons, List·Memᴰ·not-nil}
-use mathlib.Core.List.List·Memᴰ.{List·Memᴰ·head, List·Memᴰ·tail}
-use mathlib.Core.Bool.{Bool, true, false}
-use mathlib.Core.Option.{none, some}
-use mathlib.Core.Path.{_≡_, refl, sym, ap, _∙_}
-use mathlib.Core.Logic.{_⊎_, inl, inr, _↔_}
-use native.Mathlib.Omega.{arith}
-use Rattle.values.specs.declared.Displacement.{Displacement}
-use Rattle.book.specs.declared.Entry.{Entry}
-use Rattle.book.specs.Book.{Record, Book, bookOf}
+use Rattle.theorems.specs.Logic.{ℕ, List, [], _∷_, List·Memᴰ, List·Memᴰ·cases-cons, List·Memᴰ·not-nil, List·Memᴰ·head, List·Memᴰ·tail, Bool, true, false, none, some, _≡_, refl, sym, ap, _∙_, _⊎_, inl, inr, _↔_, arith}
+use Rattle.theorems.specs.Types.{Displacement, Entry, Loaded, Record, Book}
+use Rattle.book.specs.Book.{bookOf}
 use Rattle.book.specs.Writing.{fairAll}
 use Rattle.fields.specs.Fields.{overField}
-use Rattle.load.specs.declared.Loaded.{Loaded}
 use Rattle.load.specs.Load.{Outcome, bytesStored, firstCard, outside, roomIn, ofBook, loading}
 use Rattle.load.proofs.Laws.{first-hit, first-miss, first-none, none-fails}
 use Rattle.theorems.specs.Moved.{movedEntry}
 use Rattle.book.proofs.Written.{fair-first, read-fair}
 use Rattle.theorems.proofs.Outcomes.{Load, load, firstOutside, firstOver}
 use Rattle.theorems.proofs.Outcomes.Why.{isBroken, isOutside, isOver, isEntryOver}
-use Rattle.theorems.proofs.Outcomes.Load.{isRefused, isStored}
 use Rattle.theorems.specs.Judged.{NoneFails, FirstFails, entryOver}
 
 -- THE FIRST RECORD THAT FAILS A TEST
@@ -89,14 +79,14 @@ module _ (s : List ℕ) (d : Displacement) (m : List ℕ) where
   refused-50 = (λ h. there (rw h at (load s d m)), λ h. ap (λ x. ofBook x d m .answer) h)
     where
       there : {x : List ℕ} → Load s d m Loaded.Broken x → bookOf s ≡ none
-      there (isRefused (isBroken f)) = f
+      there (Load.isRefused (isBroken f)) = f
 
   -- 51 with the card of the first record whose text is outside storage
   pub refused-51 : (card : ℕ) → loaded .answer ≡ Loaded.Outside card → (b : Book) × (bookOf s ≡ some b) × (FirstFails fails51 (b .records) card)
   refused-51 card h = go (rw h at (load s d m))
     where
       go : {card : ℕ} {x : List ℕ} → Load s d m (Loaded.Outside card) x → (b : Book) × (bookOf s ≡ some b) × (FirstFails fails51 (b .records) card)
-      go (isRefused (isOutside b f n)) = (b, f, first-failing fails51 (b .records) n)
+      go (Load.isRefused (isOutside b f n)) = (b, f, first-failing fails51 (b .records) n)
 
   -- 52, where no record is outside, with the card of the first record that has a field over 65535, or 0 for the entry alone
   pub refused-52 : (card : ℕ) → loaded .answer ≡ Loaded.Over card
@@ -107,8 +97,8 @@ module _ (s : List ℕ) (d : Displacement) (m : List ℕ) where
       go : {card : ℕ} {x : List ℕ} → Load s d m (Loaded.Over card) x
           → (b : Book) × (bookOf s ≡ some b) × (NoneFails fails51 (b .records))
           × (FirstFails fails52 (b .records) card ⊎ ((card ≡ 0) × (NoneFails fails52 (b .records)) × (entryOver (d .0) (b .entry) ≡ true)))
-      go (isRefused (isOver b f i n)) = (b, f, none-in fails51 b f i, inl (first-failing fails52 (b .records) n))
-      go (isRefused (isEntryOver b f i u o)) = (b, f, none-in fails51 b f i, inr (refl, none-in fails52 b f u, o))
+      go (Load.isRefused (isOver b f i n)) = (b, f, none-in fails51 b f i, inl (first-failing fails52 (b .records) n))
+      go (Load.isRefused (isEntryOver b f i u o)) = (b, f, none-in fails51 b f i, inr (refl, none-in fails52 b f u, o))
 
   -- accepted if and only if the bytes are a book, no record is outside storage, and neither a field nor the entry is over 65535;
   -- then the answer is the bytes of its records and the entry plus the displacement
@@ -124,18 +114,18 @@ module _ (s : List ℕ) (d : Displacement) (m : List ℕ) where
           × (bytes ≡ bytesStored (b .records)) × (at ≡ movedEntry d (b .entry))
 
       there : {bytes : ℕ} {at : Entry} {x : List ℕ} → Load s d m (Loaded.Stored bytes at) x → Whole bytes at
-      there (isStored b f i u o at x l) = (b, f, none-in fails51 b f i, none-in fails52 b f u, o, refl, x)
+      there (Load.isStored b f i u o at x l) = (b, f, none-in fails51 b f i, none-in fails52 b f u, o, refl, x)
 
       back : Whole bytes at → loaded .answer ≡ Loaded.Stored bytes at
       back (b, f, inside, under, low, size, to) = go (load s d m)
         where
           go : {a : Loaded} {x : List ℕ} → Load s d m a x → a ≡ Loaded.Stored bytes at
-          go (isRefused (isBroken g)) = cc
-          go (isRefused (isOutside c g n)) =
+          go (Load.isRefused (isBroken g)) = cc
+          go (Load.isRefused (isOutside c g n)) =
               let same : c ≡ b = cc in
               absurd (n (ap (firstOutside s d m) same ∙ no-card fails51 (b .records) inside))
-          go (isRefused (isOver c g i n)) =
+          go (Load.isRefused (isOver c g i n)) =
               let same : c ≡ b = cc in
               absurd (n (ap (firstOver s d m) same ∙ no-card fails52 (b .records) under))
-          go (isRefused (isEntryOver c g i u o)) = let same : c ≡ b = cc in cc
-          go (isStored c g i u o w x l) = let same : c ≡ b = cc in cc
+          go (Load.isRefused (isEntryOver c g i u o)) = let same : c ≡ b = cc in cc
+          go (Load.isStored c g i u o w x l) = let same : c ≡ b = cc in cc

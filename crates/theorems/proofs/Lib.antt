@@ -1,6 +1,5 @@
 -- The theorems.
 pub mod Raising
-mod Stores
 mod Outcomes
 pub mod Judged
 pub mod Accepted

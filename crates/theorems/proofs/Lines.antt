@@ -1,33 +1,14 @@
 -- Which shapes an operand has by its pattern, and what an operation's row says of them: all that is told of the single operations.
-use Prim.{Unit, tt}
-use Prim.Native.Nat.{ℕ, _+_}
-use mathlib.Core.List.{List}
-use mathlib.Core.Bool.{Bool, true, false}
-use mathlib.Core.Path.{_≡_, refl}
-use lib.ListN.{length}
-use lib.Dec.{ltb}
+use Rattle.theorems.specs.Logic.{Unit, tt, ℕ, _+_, List, Bool, true, false, _≡_, refl, length, ltb}
+use Rattle.theorems.specs.Types.{Term, Form, Operation, Role, Pattern, Use, Rule, Traits, Data, DataForm, Address, Addressed, Shape, Line}
 use Rattle.values.specs.Tests.{pick}
-use Rattle.terms.specs.declared.Term.{Term}
 use Rattle.letters.specs.Text.{stands}
-use Rattle.expressions.specs.declared.form.Form.{Form}
 use Rattle.expressions.specs.Form.{formOf, expressionAt}
-use Rattle.operations.specs.declared.Operation.{Operation}
-use Rattle.operations.specs.declared.traits.Role.{Role}
-use Rattle.operations.specs.declared.traits.Pattern.{Pattern}
-use Rattle.operations.specs.declared.traits.Use.{Use}
-use Rattle.operations.specs.declared.traits.Rule.{Rule}
-use Rattle.operations.specs.declared.traits.Traits.{Traits}
 use Rattle.operations.specs.Traits.{traitsOf, patternOf}
-use Rattle.data.specs.declared.Data.{Data}
-use Rattle.data.specs.declared.DataForm.{DataForm}
 use Rattle.data.specs.Form.{constantForm, reserveForm}
-use Rattle.addresses.specs.declared.Address.{Address}
 use Rattle.addresses.specs.declared.Allowed.the-variants.{OnlyRegister}
-use Rattle.addresses.specs.declared.Addressed.{Addressed}
 use Rattle.addresses.specs.Address.{addressAt}
-use Rattle.forms.specs.declared.Shape.{Shape}
 use Rattle.forms.specs.Shape.{ended, behindForm, behindAddressed, behindComma, lastAt, isAbsent, startTerm, startOf, startShape, endShape, pairShape, firstAllowed, secondAllowed, twoOf, twoShape, oneShape, onlyShape, behindData, constantShape, reserveShape, shapeBy, ofData}
-use Rattle.lines.specs.declared.Line.{Line}
 use Rattle.lines.specs.declared.Reading.the-variants.{Statement}
 use Rattle.lines.specs.Lines.{readingOf, operandColumns}
 use Rattle.lines.proofs.Laws.{line-shape}

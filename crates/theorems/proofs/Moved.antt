@@ -1,47 +1,34 @@
 -- MOVED IS RAISED (R21.4). Two decks whose statement columns agree on every card but START's, where the names agree and the values are s and s + d;
 -- both are accepted. Then the counts of names agree, the second book is the first moved by d as the loader moves it,
 -- and loading the first by d and the second by 0 gives the same answer and the same storage, for every storage: 51 and 52 included, overlaid fields included.
-use Prim.{tt}
-use Prim.Native.Nat.{ℕ, _+_, _≤_}
-use mathlib.Core.List.{List, [], _∷_, _++_, map, List·Memᴰ, Memᴰ·map}
-use mathlib.Core.Bool.{Bool, true, false}
-use mathlib.Core.Path.{_≡_, refl, sym, ap, _∙_, subst}
-use native.Mathlib.Omega.{arith}
-use lib.ListN.{length, getD, length-append, length-map}
-use lib.Dec.{eqb}
+use Rattle.theorems.specs.Logic.{tt, ℕ, _+_, _≤_, List, [], _∷_, _++_, map, List·Memᴰ, Memᴰ·map, Bool, true, false, _≡_, refl, sym, ap, _∙_, subst, arith, length, getD, length-append, length-map, eqb}
+use Rattle.theorems.specs.Types.{Name, Shape, Record, Book, clean, State, through, made}
 use Rattle.values.specs.Tests.{pick}
 use Rattle.values.specs.declared.Value.the-variants.{Relocatable}
-use Rattle.names.specs.declared.Name.{Name}
 use Rattle.names.specs.Names.{find}
 use Rattle.names.specs.Raised.{raisedName}
-use Rattle.book.specs.Book.{Record, Book}
 use Rattle.book.specs.Writing.{bookBytes, entryFits}
 use Rattle.passes.specs.declared.Phase.the-variants.{Within}
-use Rattle.passes.specs.Two.Checked.{clean}
-use Rattle.passes.specs.One.{State, fresh, passOne}
-use Rattle.passes.specs.One.Passed.{through}
+use Rattle.passes.specs.One.{fresh, passOne}
 use Rattle.passes.specs.Two.{outset, checkTwo, cardRecords, entryFrom, bookFrom}
 use Rattle.passes.specs.Assembly.{assembled}
-use Rattle.passes.specs.Assembly.Result.{made}
 use Rattle.load.specs.Load.{judged, loading}
 use Rattle.operations.specs.declared.traits.Pattern.the-variants.{StartTerm}
-use Rattle.forms.specs.declared.Shape.{Shape}
 use Rattle.forms.specs.Shape.{startOr}
 use Rattle.forms.proofs.Laws.{ShapeIn, shape-in}
 use Rattle.lines.specs.Lines.{operandColumns}
 use Rattle.lines.proofs.Laws.{line-shape}
 use Rattle.theorems.proofs.Lines.{Has, line-has}
-use Rattle.theorems.proofs.Lines.Has.{fails, starts}
 use Rattle.theorems.specs.Fields.{Apart}
+use Rattle.theorems.specs.Grow.{lookIn}
 use Rattle.theorems.specs.Raised.{raisedState}
 use Rattle.fields.proofs.Laws.{moved-length}
 use Rattle.theorems.specs.Moved.{movedEntry, movedRecord, movedBook, Starting, SameButStart}
-use Rattle.theorems.proofs.Accepted.{both-passed}
-use Rattle.theorems.proofs.Readable.{entry-fits, loaded-as-made}
+use Rattle.theorems.proofs.Readable.{accepted-source, entry-fits, loaded-as-made}
 use Rattle.theorems.proofs.Fields.{other-bytes}
-use Rattle.theorems.proofs.RaisedPasses.{AllUsual, pass-usual, pass-raised, records-raised, entries-raised}
+use Rattle.theorems.proofs.RaisedPasses.{AllUsual, pass-usual, pass-raised, cards-raised}
 use Rattle.theorems.proofs.RaisedText.{RecordsRaised, records-moved, judged-same}
-use Rattle.theorems.proofs.Started.{AllComments, cardBehind, begunOne, begunTwo, only-comments, one-behind, two-behind, records-behind, entry-behind}
+use Rattle.theorems.proofs.Started.{AllComments, cardBehind, begunOne, begunTwo, only-comments, one-behind, two-behind}
 
 begun-raised : (d name at : ℕ) → begunOne name (at + d) ≡ raisedState d (begunOne name at)
 begun-raised d name at = ap (λ ns. record { counter = at + d; names = ns; phase = Within }) (go (eqb name 0))
@@ -80,14 +67,10 @@ module _ (d : ℕ) (before after : List (List ℕ)) (s t : List ℕ) (name at : 
       × (entryFrom (find (e .names)) outset (before ++ t ∷ after) ≡ movedEntry (record { 0 = d }) (entryFrom (find (a .names)) outset (before ++ s ∷ after)))
   deck-raised p₂ q₂ =
       let names : e .names ≡ up = ap (λ (x : State). x .names) end-raised in
-      let lower = two-behind before s after name at starts comments (find (a .names)) p₂ in
-      let higher = rw names at (two-behind before t after name (at + d) starts′ comments (find (e .names)) q₂) in (
-        names,
-        rw (records-behind before s after name at starts comments (find (a .names)), records-behind before t after name (at + d) starts′ comments (find (e .names)), names)
-            (records-raised d (a .names) after next (begunTwo at) usual lower higher),
-        rw (entry-behind before s after name at starts comments (find (a .names)), entry-behind before t after name (at + d) starts′ comments (find (e .names)), names)
-            (entries-raised d (a .names) after next (begunTwo at) usual lower higher),
-      )
+      let (lower, records, entry) = two-behind before s after name at starts comments (find (a .names)) in
+      let (higher, records′, entry′) = two-behind before t after name (at + d) starts′ comments (find (e .names)) in
+      let (raised, same) = cards-raised d (a .names) after next (begunTwo at) usual (lower p₂) (rw names at (higher q₂)) in
+      (names, rw (records, records′, names) raised, rw (entry, entry′, names) same)
 
 -- R17.1: d is a displacement, since both values are 16 bits
 pub displacement-fits : (d : ℕ) (ss ts : List (List ℕ)) → SameButStart d ss ts → d ≤ 65535
@@ -99,22 +82,22 @@ displacement-fits d ss ts same =
     omega arith
   where
     go : (o : List ℕ) {x : Shape} → Has StartTerm x → ShapeIn o x → startOr x 0 ≤ 65535
-    go o fails w = omega arith
-    go o starts w = omega arith
+    go o Has.fails w = omega arith
+    go o Has.starts w = omega arith
 
 -- THE THEOREM, of two such decks that are both accepted
 module _ (d : ℕ) (ss ts : List (List ℕ)) (same : SameButStart d ss ts) (n m : ℕ) (b c : Book) (accepted : assembled ss ≡ made n b) (accepted′ : assembled ts ≡ made m c) where
   deck-books : (m ≡ n) × (RecordsRaised d (b .records) (c .records)) × (c .entry ≡ movedEntry (record { 0 = d }) (b .entry))
   unfolding bookFrom
   deck-books =
-      let x = both-passed ss n b accepted in
-      let y = both-passed ts m c accepted′ in
+      let x = accepted-source ss n b accepted in
+      let y = accepted-source ts m c accepted′ in
       let (names, records, entry) =
       deck-raised d (same .before) (same .after) (same .first) (same .second) (same .name) (same .start) (same .starts) (same .startsHigher)
       (x .end) (y .end) (ap (passOne 1 fresh) (sym (same .lower)) ∙ x .one) (ap (passOne 1 fresh) (sym (same .higher)) ∙ y .one)
-      (ap (checkTwo (find (x .end .names)) 1 outset) (sym (same .lower)) ∙ x .two) (ap (checkTwo (find (y .end .names)) 1 outset) (sym (same .higher)) ∙ y .two) in
-      let f : b ≡ bookFrom (find (x .end .names)) (same .before ++ same .first ∷ same .after) = x .book ∙ ap (bookFrom (find (x .end .names))) (same .lower) in
-      let g : c ≡ bookFrom (find (y .end .names)) (same .before ++ same .second ∷ same .after) = y .book ∙ ap (bookFrom (find (y .end .names))) (same .higher) in
+      (ap (checkTwo (find (x .end .names)) 1 outset) (sym (same .lower)) ∙ rw (x .all) at (x .two)) (ap (checkTwo (find (y .end .names)) 1 outset) (sym (same .higher)) ∙ rw (y .all) at (y .two)) in
+      let f : b ≡ bookFrom (find (x .end .names)) (same .before ++ same .first ∷ same .after) = x .book ∙ ap (λ look. bookFrom look ss) (x .all) ∙ ap (bookFrom (find (x .end .names))) (same .lower) in
+      let g : c ≡ bookFrom (find (y .end .names)) (same .before ++ same .second ∷ same .after) = y .book ∙ ap (λ look. bookFrom look ts) (y .all) ∙ ap (bookFrom (find (y .end .names))) (same .higher) in
       (y .count ∙ ap length names ∙ length-map (x .end .names) (raisedName d) ∙ sym (x .count), rw (f, g) records, rw (f, g) entry)
 
   -- the counts of names agree
@@ -129,8 +112,7 @@ module _ (d : ℕ) (ss ts : List (List ℕ)) (same : SameButStart d ss ts) (n m 
   pub records-load : (storage : List ℕ) → judged (b .entry) (record { 0 = d }) (b .records) storage ≡ judged (c .entry) (record { 0 = 0 }) (c .records) storage
   unfolding bookFrom
   records-load storage =
-      let y = both-passed ts m c accepted′ in
-      let fits : entryFits (c .entry) ≡ true = rw (y .book) (entry-fits (find (y .end .names)) ts outset) in
+      let fits : entryFits (c .entry) ≡ true = rw (accepted-source ts m c accepted′ .book) (entry-fits (lookIn ts) ts outset) in
       rw (deck-books .2) (judged-same d (b .records) (c .records) (deck-books .1) storage (b .entry) (rw (deck-books .2) at fits))
 
   -- R21.4: each record of the first book is there in the second, of the same card,

@@ -1,32 +1,17 @@
 -- What follows from the answer of a call: the ways an assembly and a load can go, told by the answer and the lent bytes that each leaves.
-use Prim.Native.Nat.{ℕ, zero, suc, _+_, _/_, _%_, _≤_}
-use mathlib.Core.List.{List}
-use mathlib.Core.Bool.{Bool, true, false}
-use mathlib.Core.Option.{Option, none, some}
-use mathlib.Core.Path.{_≡_, refl, sym, ap, _∙_}
-use native.Mathlib.Omega.{arith}
-use lib.ListN.{length}
-use lib.Dec.{ltb, leb, eqb}
-use lib.Seq.{sets}
-use borrow.Author.Tests.{eqb-true, eqb-false, ltb-true, ltb-false, le-leb, le-ltb, lt-ltb}
+use Rattle.theorems.specs.Logic.{ℕ, zero, suc, _+_, _/_, _%_, _≤_, List, Bool, true, false, Option, none, some, _≡_, refl, sym, ap, _∙_, arith, length, ltb, leb, eqb, sets, eqb-true, eqb-false, ltb-true, ltb-false, le-leb, le-ltb, lt-ltb}
+use Rattle.theorems.specs.Types.{Displacement, Relocatable, Moved, Entry, Loaded, Assembled, Book, Result, made, refused}
 use Rattle.values.specs.Tests.{pick}
 use Rattle.values.specs.Values.{movedBy}
-use Rattle.values.specs.declared.Displacement.{Displacement}
-use Rattle.values.specs.declared.Relocatable.{Relocatable}
-use Rattle.values.specs.declared.Moved.{Moved}
 use Rattle.values.proofs.Sums.{moved-to, moved-over}
 use Rattle.names.specs.Table.{zeroed}
-use Rattle.book.specs.declared.Entry.{Entry}
-use Rattle.book.specs.Book.{Book, bookOf}
+use Rattle.book.specs.Book.{bookOf}
 use Rattle.book.specs.Writing.{bookBytes, entryFits}
 use Rattle.cards.specs.Source.{isWidth, sourceNo, cardsFrom, cardsOf}
 use Rattle.cards.proofs.Whole.{source-whole}
 use Rattle.fields.specs.Fields.{overField}
-use Rattle.load.specs.declared.Loaded.{Loaded}
 use Rattle.load.specs.Load.{Outcome as Loads, bytesStored, storedAll, firstCard, outside, roomIn, judgedEntry, judgedMoved, judged, ofBook, loading}
-use Rattle.passes.specs.declared.Assembled.{Assembled}
-use Rattle.passes.specs.Assembly.{Result, Outcome, assembled, workSize, written, outcomeOf, assembling}
-use Rattle.passes.specs.Assembly.Result.{made, refused}
+use Rattle.passes.specs.Assembly.{Outcome, assembled, workSize, written, outcomeOf, assembling}
 use Rattle.passes.proofs.Assembly.{too-long, fits, no-source, no-work, through-call}
 use Rattle.theorems.specs.Moved.{movedEntry}
 use Rattle.theorems.specs.Judged.{entryOver}

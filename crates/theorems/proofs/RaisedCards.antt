@@ -1,41 +1,24 @@
 -- One card, over names and a counter raised by d: what it does to the counter, to the names, to the bases, and its pieces.
-use Prim.Native.Nat.{ℕ, _+_, _-_}
-use mathlib.Core.List.{List, [], _∷_, map}
-use mathlib.Core.Path.{_≡_, refl, sym, ap, _∙_}
-use native.Mathlib.Omega.{arith}
+use Rattle.theorems.specs.Logic.{ℕ, _+_, _-_, List, [], _∷_, map, _≡_, refl, sym, ap, _∙_, arith}
+use Rattle.theorems.specs.Types.{Wanted, MaybeValue, Name, Operation, Role, DataCard, DataType, Data, Item, Address, Shape, Operands, Bases, Line, Addend, Read, Piece, plain}
 use Rattle.values.specs.declared.Value.the-variants.{Absolute, Relocatable}
-use Rattle.values.specs.declared.Wanted.{Wanted}
-use Rattle.values.specs.declared.MaybeValue.{MaybeValue}
 use Rattle.values.specs.Values.{onlyRelocatable, withRelocatable}
 use Rattle.values.proofs.Refusals.{lower-zero}
 use Rattle.terms.specs.Terms.{termAt}
-use Rattle.names.specs.declared.Name.{Name}
 use Rattle.names.specs.Names.{find}
 use Rattle.names.specs.Raised.{raisedName}
 use Rattle.expressions.specs.declared.Evaluated.the-variants.{Good}
-use Rattle.expressions.specs.Form.{Placed, Addend, Read, expressionAt}
+use Rattle.expressions.specs.Form.{Placed, expressionAt}
 use Rattle.expressions.specs.Value.{evaluated, refusalFor}
 use Rattle.expressions.proofs.Laws.{accepted}
-use Rattle.operations.specs.declared.Operation.{Operation}
-use Rattle.operations.specs.declared.traits.Role.{Role}
 use Rattle.operations.specs.Traits.{firstWanted, roleOf}
-use Rattle.data.specs.declared.DataCard.{DataCard}
-use Rattle.data.specs.declared.DataType.{DataType}
-use Rattle.data.specs.declared.Data.{Data}
 use Rattle.data.specs.Sizes.{dataNoBy, dataNo}
 use Rattle.data.specs.Text.{constantText}
 use Rattle.data.proofs.Fine.{constant-fine, reserve-fine}
-use Rattle.addresses.specs.declared.Item.{Item}
-use Rattle.addresses.specs.declared.Address.{Address}
-use Rattle.forms.specs.declared.Shape.{Shape}
-use Rattle.operands.specs.declared.Operands.{Operands}
 use Rattle.operands.specs.Operands.{itemOf, addressOf, byType, byCard, operandsOf}
 use Rattle.operands.specs.Kinds.{itemNo, addressNo, constantWanted, expressionsNo}
-use Rattle.places.specs.declared.Bases.{Bases}
 use Rattle.statements.specs.Statements.{statementFrom, basesAfter, loneValue}
-use Rattle.encode.specs.Pieces.{Piece, piecesOf}
-use Rattle.encode.specs.Pieces.Piece.{plain}
-use Rattle.lines.specs.declared.Line.{Line}
+use Rattle.encode.specs.Pieces.{piecesOf}
 use Rattle.lines.specs.Lines.{operandColumns}
 use Rattle.passes.specs.Cards.{operandsAt, counterBy, counterAfter, placeNamed, nameValueBy, nameValue}
 use Rattle.passes.specs.One.{againNo, earlyBy, earlyNo, sizesNo}

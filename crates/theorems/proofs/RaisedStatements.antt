@@ -1,41 +1,19 @@
 -- A card's operands and bases raised by d: Q, lengths, registers, displacement bytes and jump bytes stay, its bases and its pieces are raised.
-use Prim.Native.Nat.{ℕ, zero, suc, _+_, _-_, _%_, _/_}
-use mathlib.Core.List.{List, [], _∷_, map, map-append}
-use mathlib.Core.Bool.{Bool, true, false}
-use mathlib.Core.Path.{_≡_, refl, sym, ap}
-use native.Mathlib.Omega.{arith}
-use lib.Dec.{leb, eqb}
-use borrow.Author.Tests.{le-leb, lt-leb, leb-true, leb-false, eqb-true}
+use Rattle.theorems.specs.Logic.{ℕ, zero, suc, _+_, _-_, _%_, _/_, List, [], _∷_, map, map-append, Bool, true, false, _≡_, refl, sym, ap, arith, leb, eqb, le-leb, lt-leb, leb-true, leb-false, eqb-true}
+use Rattle.theorems.specs.Types.{Value, MaybeValue, MaybeAbsolute, Evaluated, Operation, Use, Rule, EvaluatedItem, EvaluatedAddress, Operands, Base, Bases, Operand, Placed, Code, Statement, Piece, plain, value}
 use Rattle.values.specs.Tests.{pick, both}
-use Rattle.values.specs.declared.Value.{Value}
 use Rattle.values.specs.declared.Wanted.the-variants.{Any, OnlyAbsolute}
-use Rattle.values.specs.declared.MaybeValue.{MaybeValue}
-use Rattle.values.specs.declared.MaybeAbsolute.{MaybeAbsolute}
 use Rattle.values.specs.Values.{withValue, withAbsolute}
 use Rattle.values.proofs.Laws.{clash}
 use Rattle.names.specs.Raised.{raisedValue}
-use Rattle.expressions.specs.declared.Evaluated.{Evaluated}
 use Rattle.expressions.specs.Value.{kindOf, suits, valueIn, absoluteIn}
 use Rattle.expressions.proofs.Laws.{accepted}
-use Rattle.operations.specs.declared.Operation.{Operation}
-use Rattle.operations.specs.declared.traits.Use.{Use}
-use Rattle.operations.specs.declared.traits.Rule.{Rule}
 use Rattle.operations.specs.Traits.{useOf, ruleOf}
-use Rattle.operands.specs.declared.EvaluatedItem.{EvaluatedItem}
-use Rattle.operands.specs.declared.EvaluatedAddress.{EvaluatedAddress}
-use Rattle.operands.specs.declared.Operands.{Operands}
 use Rattle.operands.specs.Kinds.{constantWanted, expressionsNo}
-use Rattle.places.specs.declared.Base.{Base}
-use Rattle.places.specs.declared.Bases.{Bases}
-use Rattle.places.specs.declared.Operand.{Operand}
-use Rattle.places.specs.declared.Placed.{Placed}
-use Rattle.places.specs.declared.codes.Code.{Code}
 use Rattle.places.specs.Codes.{itemOr, twoCode, behindCode, codeOf}
 use Rattle.places.specs.Places.{isRegister, awayFrom, displacedBy, indexedBy, byRegister, operandOf, jumpCode, jumpTo, withBase, usingBase, dropBase, registeredBy, basesBy}
-use Rattle.statements.specs.declared.Statement.{Statement}
 use Rattle.statements.specs.Statements.{nextOf, twoOf, oneOf, jumpOf, statementFrom, basesAfter, loneValue}
-use Rattle.encode.specs.Pieces.{Piece, addressPieces, copied, piecesOf}
-use Rattle.encode.specs.Pieces.Piece.{plain, value}
+use Rattle.encode.specs.Pieces.{addressPieces, copied, piecesOf}
 use Rattle.theorems.specs.Raised.{raisedMaybe, raisedEvaluated, raisedItem, raisedAddress, raisedOperands, raisedBase, raisedBases, raisedOperand, raisedPlaced, raisedPiece}
 
 module _ (d : ℕ) where

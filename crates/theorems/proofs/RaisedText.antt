@@ -1,24 +1,13 @@
 -- Pieces and records raised by d: moving the listed fields of a text by d raises its pieces, and loading records by d comes to what loading those raised by d does.
-use Prim.{Unit}
-use Prim.Native.Nat.{ℕ, _+_, _%_, _<_}
-use mathlib.Core.List.{List, [], _∷_, _++_, map, append-assoc}
-use mathlib.Core.Bool.{false, true}
-use mathlib.Core.Path.{_≡_, refl, sym, ap, _∙_}
-use native.Mathlib.Omega.{arith}
-use native.Mathlib.Nat.{add-zero}
-use lib.ListN.{length, length-append}
-use lib.Seq.{sets}
+use Rattle.theorems.specs.Logic.{Unit, ℕ, _+_, _%_, _<_, List, [], _∷_, _++_, map, append-assoc, false, true, _≡_, refl, sym, ap, _∙_, arith, add-zero, length, length-append, sets}
+use Rattle.theorems.specs.Types.{Displacement, Entry, Piece, plain, value, Record}
 use Rattle.values.specs.Words.{word, twoBytes}
 use Rattle.values.specs.declared.Value.the-variants.{Absolute, Relocatable}
 use Rattle.values.proofs.Laws.{word-shift}
 use Rattle.values.specs.Values.{amountOf, movedBy}
-use Rattle.encode.specs.Pieces.{Piece, textOf, offsetsFrom, fieldsOf}
-use Rattle.encode.specs.Pieces.Piece.{plain, value}
+use Rattle.encode.specs.Pieces.{textOf, offsetsFrom, fieldsOf}
 use Rattle.fields.specs.Fields.{movedIn, overIn, overField}
-use Rattle.values.specs.declared.Displacement.{Displacement}
 use Rattle.fields.proofs.Laws.{moved-low, over-later, over-none, moved-first, moved-none, moved-length}
-use Rattle.book.specs.declared.Entry.{Entry}
-use Rattle.book.specs.Book.{Record}
 use Rattle.book.specs.Writing.{entryFits}
 use Rattle.load.specs.Load.{stored, storedAll, bytesStored, firstCard, outside, roomIn, accepted, judgedEntry, judged}
 use Rattle.load.proofs.Laws.{first-miss, first-none}

@@ -3,29 +3,15 @@
 -- Kinds, undefined names and their positions stay, and so do refusals 18 and 19, whatever becomes of the value: no premise says that either run is accepted.
 -- Where both runs have a value, an absolute one stays and a relocatable one is d higher.
 -- The form of an expression is no matter of names or counter: `expressionAt` takes neither.
-use Prim.Native.Nat.{ℕ, _+_, _-_, _*_, _%_, _≤_}
-use mathlib.Core.List.{List, [], _∷_, map}
-use mathlib.Core.Bool.{Bool, true, false, not}
-use mathlib.Core.Path.{_≡_, refl, sym, ap, _∙_, fun-ext}
-use native.Mathlib.Nat.{add-zero, mul-zero, mul-one, mul-add}
-use native.Mathlib.Omega.{arith}
-use lib.Dec.{ltb, eqb}
-use borrow.Author.Tests.{ltb-false, eqb-true}
+use Rattle.theorems.specs.Logic.{ℕ, _+_, _-_, _*_, _%_, _≤_, List, [], _∷_, map, Bool, true, false, not, _≡_, refl, sym, ap, _∙_, fun-ext, add-zero, mul-zero, mul-one, mul-add, arith, ltb, eqb, ltb-false, eqb-true}
+use Rattle.theorems.specs.Types.{Value, Term, Meaning, Factor, Kind, Name, Wanted, Evaluated, Product, Addend, Read}
 use Rattle.values.specs.Tests.{pick, either}
-use Rattle.values.specs.declared.Value.{Value}
-use Rattle.terms.specs.declared.Term.{Term}
-use Rattle.names.specs.declared.Meaning.{Meaning}
 use Rattle.names.specs.Raised.{raisedValue, raisedMeaning, raisedName}
-use Rattle.expressions.specs.declared.factors.Factor.{Factor}
-use Rattle.expressions.specs.declared.Kind.{Kind}
-use Rattle.expressions.specs.Form.{Placed, Product, Addend, Read}
+use Rattle.expressions.specs.Form.{Placed}
 use Rattle.expressions.specs.Value.{meaningFactor, factorOf, placedFactor, addendFactors, times, anyRelocatable, anyUndefined, mixedWith, aloneWith, worth, mixed, alone, ifPlus, ifMinus, counted, added, subtracted, afterPlus, afterMinus, anyMixed, anyUnknown, Sum, sumOf, absoluteOf, relocatableOf, valueOf, evaluated, suits, kindOf, refusalFor, meaningLength, termLength}
 use Rattle.values.proofs.Laws.{clash}
-use Rattle.names.specs.declared.Name.{Name}
 use Rattle.names.specs.Names.{find}
 use Rattle.names.proofs.Names.{find-raised}
-use Rattle.values.specs.declared.Wanted.{Wanted}
-use Rattle.expressions.specs.declared.Evaluated.{Evaluated}
 use Rattle.expressions.specs.Form.Read.{upTo, fails}
 use Rattle.theorems.specs.Raising.{raisedLook, sortOf, Sort, undefinedPlaces, undefinedTerms, undefinedAt}
 use Rattle.theorems.specs.Raising.Sort.{undefined, noKind, ofKind, unformed}
@@ -158,30 +144,29 @@ module _ (d : ℕ) where
 
   -- KINDS
 
-  sort-value : (s : Sum)
-      → sortOf (valueOf s)
-      ≡ pick (s .undefined) undefined (pick (s .mixed) noKind (pick (eqb (s .afterPlus) (s .afterMinus)) (ofKind Kind.Absolute) (pick (eqb (s .afterPlus) (s .afterMinus + 1)) (ofKind Kind.Relocatable) noKind)))
-  unfolding valueOf
-  sort-value s = go (s .undefined) (s .mixed) (eqb (s .afterPlus) (s .afterMinus)) (eqb (s .afterPlus) (s .afterMinus + 1))
-    where
-      one : (b : Bool) (v : Value) (k : Kind) → sortOf (Evaluated.Good v) ≡ ofKind k → sortOf (pick b (Evaluated.OutOfRange k) (Evaluated.Good v)) ≡ ofKind k
-      one true v k e = refl
-      one false v k e = e
+  one-sort : (b : Bool) (v : Value) (k : Kind) → sortOf (Evaluated.Good v) ≡ ofKind k → sortOf (pick b (Evaluated.OutOfRange k) (Evaluated.Good v)) ≡ ofKind k
+  one-sort true v k e = refl
+  one-sort false v k e = e
 
-      go : (a b c e : Bool)
-          → sortOf (pick a Evaluated.Undefined (pick b Evaluated.WrongKind (pick c (absoluteOf s) (pick e (relocatableOf s) Evaluated.WrongKind))))
-          ≡ pick a undefined (pick b noKind (pick c (ofKind Kind.Absolute) (pick e (ofKind Kind.Relocatable) noKind)))
-      go true b c e = refl
-      go false true c e = refl
-      go false false true e =
-          one (either (s .out) (either (ltb (s .added + 65536) (s .subtracted)) (ltb (s .subtracted + 65535) (s .added)))) (Value.Absolute (record { 0 = (s .added + 65536 - s .subtracted) % 65536 })) Kind.Absolute refl
-      go false false false true =
-          one (either (s .out) (either (ltb (s .added) (s .subtracted)) (ltb (s .subtracted + 65535) (s .added)))) (Value.Relocatable (record { 0 = s .added - s .subtracted })) Kind.Relocatable refl
-      go false false false false = refl
+  absolute-sort : (s : Sum) → sortOf (absoluteOf s) ≡ ofKind Kind.Absolute
+  absolute-sort s = one-sort (either (s .out) (either (ltb (s .added + 65536) (s .subtracted)) (ltb (s .subtracted + 65535) (s .added)))) _ Kind.Absolute refl
+
+  relocatable-sort : (s : Sum) → sortOf (relocatableOf s) ≡ ofKind Kind.Relocatable
+  relocatable-sort s = one-sort (either (s .out) (either (ltb (s .added) (s .subtracted)) (ltb (s .subtracted + 65535) (s .added)))) _ Kind.Relocatable refl
 
   pub sum-sort : (xs : List (Addend Factor)) → sortOf (valueOf (sumOf (map raisedAddend xs))) ≡ sortOf (valueOf (sumOf xs))
+  unfolding valueOf
   sum-sort xs =
-      sort-value (sumOf (map raisedAddend xs)) ∙ rw (any-unknown-raised xs, any-mixed-raised xs, plus-raised xs, minus-raised xs) (sym (sort-value (sumOf xs)))
+      rw (any-unknown-raised xs, any-mixed-raised xs, plus-raised xs, minus-raised xs)
+      (go (anyUnknown xs) (anyMixed xs) (eqb (afterPlus xs) (afterMinus xs)) (eqb (afterPlus xs) (afterMinus xs + 1)) (sumOf (map raisedAddend xs)) (sumOf xs))
+    where
+      go : (a b c e : Bool) (s t : Sum) → sortOf (pick a Evaluated.Undefined (pick b Evaluated.WrongKind (pick c (absoluteOf s) (pick e (relocatableOf s) Evaluated.WrongKind))))
+          ≡ sortOf (pick a Evaluated.Undefined (pick b Evaluated.WrongKind (pick c (absoluteOf t) (pick e (relocatableOf t) Evaluated.WrongKind))))
+      go true b c e s t = refl
+      go false true c e s t = refl
+      go false false true e s t = absolute-sort s ∙ sym (absolute-sort t)
+      go false false false true s t = relocatable-sort s ∙ sym (relocatable-sort t)
+      go false false false false s t = refl
 
   -- VALUES
 

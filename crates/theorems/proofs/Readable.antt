@@ -1,61 +1,37 @@
 -- READABLE (R21.3). The book of an accepted source keeps the layout; reading its bytes gives its entry,
 -- its records and nothing else (R16.7);
 -- so loading it is never refused by 50.
-use Prim.Native.Nat.{ℕ, suc, _+_, _≤_, _<_}
-use mathlib.Core.List.{List, [], _∷_}
-use mathlib.Core.Bool.{Bool, true, false}
-use mathlib.Core.Option.{some}
-use mathlib.Core.Path.{_≡_, refl, ap, _∙_}
-use native.Mathlib.Omega.{arith}
-use lib.ListN.{length, getD, take, drop}
-use lib.Seq.{sets, sets-eq, take-append-seam}
-use borrow.Author.Tests.{le-leb}
+use Rattle.theorems.specs.Logic.{ℕ, suc, _+_, _≤_, _<_, List, [], _∷_, Bool, true, false, some, _≡_, refl, ap, _∙_, arith, length, getD, take, drop, sets, sets-eq, take-append-seam, le-leb}
+use Rattle.theorems.specs.Types.{clean, Value, Displacement, Meaning, Entry, Operation, Shape, Reading, Role, Course, MaybeValue, DataCard, Data, Pattern, Record, Book, Piece, State, through, made}
 use Rattle.values.specs.Tests.{pick}
-use Rattle.values.specs.declared.Value.{Value}
-use Rattle.values.specs.declared.Displacement.{Displacement}
-use Rattle.names.specs.declared.Meaning.{Meaning}
 use Rattle.values.specs.Values.{amountOf}
-use Rattle.book.specs.declared.Entry.{Entry}
-use Rattle.book.specs.Book.{Record, Book, bookOf}
+use Rattle.book.specs.Book.{bookOf}
 use Rattle.book.specs.Writing.{bookBytes, entryFits, fairAll}
 use Rattle.book.proofs.Laws.{is-fair}
 use Rattle.book.proofs.RoundTrip.{round-trip}
 use Rattle.cards.specs.Source.{cardsOf}
 use Rattle.data.proofs.Fine.{constant-fine}
-use Rattle.operations.specs.declared.Operation.{Operation}
-use Rattle.forms.specs.declared.Shape.{Shape}
 use Rattle.forms.specs.Size.{sizeOf}
 use Rattle.forms.proofs.Laws.{address-size}
 use Rattle.operations.specs.Traits.{useOf, roleOf, fixedSize}
-use Rattle.encode.specs.Pieces.{Piece, textOf}
+use Rattle.encode.specs.Pieces.{textOf}
 use Rattle.load.specs.declared.Loaded.the-variants.{Broken}
 use Rattle.load.specs.Load.{judged, ofBook, loading}
-use Rattle.lines.specs.declared.Reading.{Reading}
 use Rattle.lines.specs.Lines.{readingOf, operandColumns}
-use Rattle.operations.specs.declared.traits.Role.{Role}
-use Rattle.passes.specs.declared.Course.{Course}
 use Rattle.passes.specs.Cards.{valueAt}
-use Rattle.passes.specs.One.{State, fresh, readingNo, oneNo, passOne, sizesNo}
+use Rattle.passes.specs.One.{fresh, oneNo, passOne, sizesNo}
 use Rattle.data.specs.Sizes.{dataSize, dataNoBy}
-use Rattle.passes.specs.One.Passed.{through}
-use Rattle.passes.specs.Two.{outset, stepTwo, cardPieces, recordOfPieces, withRecord, cardRecords, entryBy, roleEntry, readingEntry, entryFrom, bookFrom}
+use Rattle.passes.specs.Two.{checkTwo, outset, stepTwo, cardPieces, recordOfPieces, withRecord, cardRecords, entryBy, roleEntry, readingEntry, entryFrom, bookFrom}
 use Rattle.passes.specs.declared.Assembled.the-variants.{Made}
 use Rattle.passes.specs.Assembly.{assembled, assembling}
-use Rattle.passes.specs.Assembly.Result.{made}
-use Rattle.passes.proofs.Fine.{fine, one-zero}
-use Rattle.theorems.specs.Grow.{behind, behindOne, behindTwo, lookIn, counterTwo, readingSize, cardSize}
+use Rattle.names.specs.Names.{find}
+use Rattle.theorems.specs.Grow.{namesBy, behind, behindOne, behindTwo, lookIn, counterTwo, readingSize, cardSize}
 use Rattle.theorems.specs.Accepted.{endOne}
 use Rattle.theorems.specs.Fields.{piecesAt}
 use Rattle.theorems.proofs.Lines.{Has, line-has, jumps, Fixed, row-of}
-use Rattle.theorems.proofs.Lines.Has.{fails, starts, lone, nothing, maybe, constant, reserve, pair, two, one, only, target}
 use Rattle.theorems.proofs.Grow.{room}
 use Rattle.theorems.proofs.Texts.{Sized, some-text, card-sized, fields-fit}
-use Rattle.theorems.proofs.Accepted.{Fate, fate}
-use Rattle.theorems.proofs.Accepted.Fate.{both}
-use Rattle.values.specs.declared.MaybeValue.{MaybeValue}
-use Rattle.data.specs.declared.DataCard.{DataCard}
-use Rattle.data.specs.declared.Data.{Data}
-use Rattle.operations.specs.declared.traits.Pattern.{Pattern}
+use Rattle.theorems.proofs.Accepted.{let-through, Fate, fate}
 use Rattle.theorems.specs.Readable.{dataMakes, textSize, readingMakes, makes}
 use Rattle.statements.proofs.Laws.{lone-fits}
 use Rattle.values.proofs.Laws.{clash}
@@ -69,47 +45,50 @@ data-most DataCard.Constant d n = (omega arith, constant-fine d n .size)
 data-most DataCard.Reserve d n = (omega arith, omega arith)
 
 text-most : (op : Operation) (p : Pattern) (x : Shape) → Has p x → Fixed p (useOf op) (fixedSize op) → sizesNo x ≡ 0 → (textSize op x ≤ sizeOf op x) × (textSize op x ≤ 256)
-text-most op p x fails t n = (omega arith, omega arith)
-text-most op p x starts t n = (omega arith, omega arith)
-text-most op p x nothing t n = (omega arith, omega arith)
-text-most op p x lone t n = (omega arith, omega arith)
-text-most op p x maybe t n = (omega arith, omega arith)
-text-most op p x (constant {d}) t n = data-most (d .card) d n
-text-most op p x (reserve {d}) t n = data-most (d .card) d n
-text-most op p x pair t n = (omega arith, rw t (go (jumps (useOf op))))
+text-most op p x Has.fails t n = (omega arith, omega arith)
+text-most op p x Has.starts t n = (omega arith, omega arith)
+text-most op p x Has.nothing t n = (omega arith, omega arith)
+text-most op p x Has.lone t n = (omega arith, omega arith)
+text-most op p x Has.maybe t n = (omega arith, omega arith)
+text-most op p x (Has.constant {d}) t n = data-most (d .card) d n
+text-most op p x (Has.reserve {d}) t n = data-most (d .card) d n
+text-most op p x Has.pair t n = (omega arith, rw t (go (jumps (useOf op))))
   where
     go : (b : Bool) → pick {X = ℕ} b 3 0 ≤ 256
     go true = omega arith
     go false = omega arith
-text-most op p x (two {a = a} {b = b}) t n = let y = address-size (a .register) in let z = address-size (b .register) in (omega arith, omega arith)
-text-most op p x (one {a}) t n = let y = address-size (a .register) in (omega arith, omega arith)
-text-most op p x (only {a}) t n = let y = address-size (a .register) in (omega arith, omega arith)
-text-most op p x target t n = (omega arith, omega arith)
+text-most op p x (Has.two {a = a} {b = b}) t n = let y = address-size (a .register) in let z = address-size (b .register) in (omega arith, omega arith)
+text-most op p x (Has.one {a}) t n = let y = address-size (a .register) in (omega arith, omega arith)
+text-most op p x (Has.only {a}) t n = let y = address-size (a .register) in (omega arith, omega arith)
+text-most op p x Has.target t n = (omega arith, omega arith)
 
 makes-most : (st : State) (s : List ℕ) → oneNo st s ≡ 0 → (makes s ≤ cardSize s) × (makes s ≤ 256)
 unfolding makes cardSize
-makes-most st s e = go (readingOf s) refl (one-zero st s e .2)
-  where
-    go : (x : Reading) → readingOf s ≡ x → readingNo st s x ≡ 0 → (readingMakes x ≤ readingSize x) × (readingMakes x ≤ 256)
-    go Reading.Comment q h = (omega arith, omega arith)
-    go Reading.BadName q h = (omega arith, omega arith)
-    go (Reading.Statement l) q h = text-most (l .operation) _ (l .shape) (line-has s l q) (row-of (l .operation) .fixed) (fine st s l h .sizes)
+makes-most st s e =
+    let-through st s e (λ x. (readingMakes x ≤ readingSize x) × (readingMakes x ≤ 256)) (omega arith)
+    (λ l q f. text-most (l .operation) _ (l .shape) (line-has s l q) (row-of (l .operation) .fixed) (f .sizes))
 
--- the texts of an accepted source, card by card
-pub record MadeTexts (ss : List (List ℕ)) (b : Book) : Type 0 where
+-- what an accepted source has come through: both passes, and the text of each card
+pub record Source (ss : List (List ℕ)) (n : ℕ) (b : Book) : Type 0 where
   pub end : State
   pub one : passOne 1 fresh ss ≡ through end
+  pub two : checkTwo (lookIn ss) 1 outset ss ≡ clean
+  pub all : lookIn ss ≡ find (end .names)
+  pub count : n ≡ length (end .names)
   pub book : b ≡ bookFrom (lookIn ss) ss
   pub sized : (k : ℕ) → k < length ss → Sized (makes (getD ss k [])) (piecesAt ss k)
   pub most : (k : ℕ) → k < length ss → (makes (getD ss k []) ≤ 256) × (counterTwo ss k + makes (getD ss k []) ≤ 65536)
 
-pub made-texts : (ss : List (List ℕ)) (n : ℕ) (b : Book) → assembled ss ≡ made n b → MadeTexts ss b
-made-texts ss n b h = go (rw h at (fate ss))
+pub accepted-source : (ss : List (List ℕ)) (n : ℕ) (b : Book) → assembled ss ≡ made n b → Source ss n b
+accepted-source ss n b h = go (rw h at (fate ss))
   where
-    go : {n : ℕ} {b : Book} → Fate ss (made n b) → MadeTexts ss b
-    go (both each end each′ e no-bad) = record {
+    go : {n : ℕ} {b : Book} → Fate ss (made n b) → Source ss n b
+    go (Fate.both each end each′ e no-bad) = record {
       end = endOne ss;
       one = e;
+      two = no-bad;
+      all = ap (λ x. find (namesBy x)) e;
+      count = refl;
       book = refl;
       sized = λ k i. card-sized (behindOne k fresh ss) (getD ss k []) (each k i) (lookIn ss) (behindTwo (lookIn ss) k outset ss) (each′ k i);
       most = λ k i. let (less, short) = makes-most (behindOne k fresh ss) (getD ss k []) (each k i) in let r = room ss (endOne ss) e k i in (short, omega arith);
@@ -180,13 +159,13 @@ module _ (ss : List (List ℕ)) (few : length ss ≤ 4000) (n : ℕ) (b : Book) 
   pub fair-records : fairAll 0 (b .records) ≡ true
   unfolding bookFrom
   fair-records =
-      let x = made-texts ss n b h in
+      let x = accepted-source ss n b h in
       rw (x .book) (records-fair (lookIn ss) ss 1 outset 0 (λ k i. let size = x .sized k i .1 in let most = x .most k i in (omega arith, omega arith)) (omega arith) (omega arith))
 
   -- two bytes hold its entry
   pub fair-entry : entryFits (b .entry) ≡ true
   unfolding bookFrom
-  fair-entry = rw (made-texts ss n b h .book) (entry-fits (lookIn ss) ss outset)
+  fair-entry = rw (accepted-source ss n b h .book) (entry-fits (lookIn ss) ss outset)
 
   -- its bytes are read as the same entry and records, and nothing follows
   pub readable : bookOf (bookBytes b) ≡ some b

@@ -1,42 +1,29 @@
 -- Up to START: only comment cards stand before it, and it sets the counter and its name and makes nothing.
-use Prim.{Unit, tt}
-use Prim.Native.Nat.{ℕ, _+_}
-use mathlib.Core.List.{List, [], _∷_, _++_}
-use mathlib.Core.Path.{_≡_, refl, ap, _∙_}
-use native.Mathlib.Omega.{arith}
-use lib.Dec.{eqb}
+use Rattle.theorems.specs.Logic.{Unit, tt, ℕ, _+_, List, [], _∷_, _++_, _≡_, refl, ap, _∙_, arith, eqb}
+use Rattle.theorems.specs.Types.{Name, Meaning, Shape, Entry, Line, Reading, Role, Course, clean, State, through}
 use Rattle.values.specs.Tests.{pick}
 use Rattle.values.specs.declared.Value.the-variants.{Relocatable}
-use Rattle.names.specs.declared.Name.{Name}
-use Rattle.names.specs.declared.Meaning.{Meaning}
 use Rattle.names.specs.Names.{defined}
 use Rattle.operations.specs.declared.Operation.the-variants.{Start}
-use Rattle.forms.specs.declared.Shape.{Shape}
 use Rattle.forms.specs.Shape.{startOr}
 use Rattle.operations.specs.Traits.{roleOf}
 use Rattle.operands.specs.Operands.{operandsOf}
 use Rattle.places.specs.Places.{basesBy}
 use Rattle.statements.specs.Statements.{statementFrom}
 use Rattle.encode.specs.Pieces.{piecesOf}
-use Rattle.book.specs.declared.Entry.{Entry}
-use Rattle.lines.specs.declared.Line.{Line}
-use Rattle.lines.specs.declared.Reading.{Reading}
 use Rattle.lines.specs.Lines.{readingOf, operandColumns}
-use Rattle.operations.specs.declared.traits.Role.{Role}
 use Rattle.passes.specs.declared.Phase.the-variants.{Before, Within}
-use Rattle.passes.specs.declared.Course.{Course}
-use Rattle.passes.specs.Two.Checked.{clean}
 use Rattle.passes.specs.Cards.{counterAfter, nameValue}
-use Rattle.passes.specs.One.{State, fresh, missingNo, readingNo, namesAfter, phaseAfter, stepOne, passOne}
-use Rattle.passes.specs.One.Passed.{through}
+use Rattle.passes.specs.One.{fresh, missingNo, readingNo, namesAfter, phaseAfter, stepOne, passOne}
 use Rattle.passes.specs.Two.{outset, stepTwo, checkTwo, shapePieces, linePieces, cardPieces, cardRecords, readingEntry, entryFrom}
 use Rattle.passes.proofs.Turns.{pass-turn, check-turn}
-use Rattle.passes.proofs.Fine.{fine, one-zero}
+use Rattle.passes.proofs.Fine.{Fine, fine, one-zero}
 use Rattle.theorems.specs.Moved.{Starting}
+use Rattle.values.proofs.Laws.{clash}
+use Rattle.theorems.proofs.Accepted.{let-through}
 use Rattle.theorems.proofs.Lines.{Has, line-has}
-use Rattle.theorems.proofs.Lines.Has.{fails, starts}
 use Rattle.operations.specs.declared.traits.Pattern.the-variants.{StartTerm}
-use Rattle.theorems.proofs.RaisedPasses.{usual, Begun, Usual, AllUsual, pass-usual}
+use Rattle.theorems.proofs.RaisedPasses.{again, Begun, Usual, AllUsual, pass-usual}
 
 -- every card is a comment
 abbrev pub AllComments : List (List ℕ) → Type 0
@@ -46,14 +33,6 @@ AllComments (s ∷ ss) = (readingOf s ≡ Reading.Comment) × AllComments ss
 comment-one : (st : State) (s : List ℕ) → readingOf s ≡ Reading.Comment → stepOne st s ≡ st
 unfolding stepOne
 comment-one st s e = rw e
-
-comment-two : (look : ℕ → Meaning) (c : Course) (s : List ℕ) → readingOf s ≡ Reading.Comment → stepTwo look c s ≡ c
-unfolding stepTwo
-comment-two look c s e = rw e
-
-comment-pieces : (look : ℕ → Meaning) (c : Course) (s : List ℕ) → readingOf s ≡ Reading.Comment → cardPieces look c s ≡ []
-unfolding cardPieces
-comment-pieces look c s e = rw e
 
 -- the number of the card behind them, and what the passes make of them
 abbrev pub cardBehind : ℕ → List (List ℕ) → ℕ
@@ -65,20 +44,14 @@ module _ (rest : List (List ℕ)) where
   comments-one [] c k st a h = h
   comments-one (s ∷ ss) (e, c) k st a h = comments-one ss c (k + 1) st a (rw (comment-one st s e) at (pass-turn k st a s (ss ++ rest) h .1))
 
-  module _ (look : ℕ → Meaning) (course : Course) where
-    comments-clean : (ss : List (List ℕ)) → AllComments ss → (k : ℕ) → checkTwo look k course (ss ++ rest) ≡ clean → checkTwo look (cardBehind k ss) course rest ≡ clean
-    comments-clean [] c k h = h
-    comments-clean (s ∷ ss) (e, c) k h = comments-clean ss c (k + 1) (rw (comment-two look course s e) at (check-turn look k course s (ss ++ rest) h .1))
-
-    comments-records : (ss : List (List ℕ)) → AllComments ss → (k : ℕ) → cardRecords look k course (ss ++ rest) ≡ cardRecords look (cardBehind k ss) course rest
-    unfolding cardRecords
-    comments-records [] c k = refl
-    comments-records (s ∷ ss) (e, c) k = rw (comment-pieces look course s e, comment-two look course s e) (comments-records ss c (k + 1))
-
-    comments-entry : (ss : List (List ℕ)) → AllComments ss → entryFrom look course (ss ++ rest) ≡ entryFrom look course rest
-    unfolding entryFrom
-    comments-entry [] c = refl
-    comments-entry (s ∷ ss) (e, c) = rw (comment-two look course s e, e) (comments-entry ss c)
+  comments-two : (look : ℕ → Meaning) (c : Course) (ss : List (List ℕ)) → AllComments ss → (k : ℕ)
+      → (checkTwo look k c (ss ++ rest) ≡ clean → checkTwo look (cardBehind k ss) c rest ≡ clean)
+      × (cardRecords look k c (ss ++ rest) ≡ cardRecords look (cardBehind k ss) c rest) × (entryFrom look c (ss ++ rest) ≡ entryFrom look c rest)
+  unfolding cardRecords entryFrom stepTwo cardPieces
+  comments-two look c [] all k = (λ h. h, refl, refl)
+  comments-two look c (s ∷ ss) (e, all) k =
+      let (two, records, entry) = comments-two look c ss all (k + 1) in
+      (λ h. two (rw e at (check-turn look k c s (ss ++ rest) h .1)), rw e records, rw e entry)
 
 -- a line that pass one lets through before START is START
 begins : (s : List ℕ) (l : Line) → readingOf s ≡ Reading.Statement l → readingNo fresh s (Reading.Statement l) ≡ 0 → Begun (stepOne fresh s .phase)
@@ -119,17 +92,21 @@ module _ (s : List ℕ) (l : Line) (reads : readingOf s ≡ Reading.Statement l)
   line-pieces look = rw reads (go (rw is at (line-has s l reads)))
     where
       go : {x : Shape} → Has StartTerm x → shapePieces x (operandColumns s l) (piecesOf (statementFrom (l .operation) (operandsOf look 0 (operandColumns s l) x) 0 (outset .bases))) ≡ []
-      go fails = refl
-      go starts = refl
+      go Has.fails = refl
+      go Has.starts = refl
 
   line-entry : (look : ℕ → Meaning) (rest : Entry) → readingEntry look outset s (readingOf s) rest ≡ rest
   line-entry look rest = rw (reads, is)
 
   line-again : Usual s → ⊥
-  line-again u =
-      let again = usual s l reads u in
-      let z = rw is at again in
-      omega arith
+  line-again (st, b, h) = let-through st s h (λ x. x ≡ Reading.Statement l → ⊥) (λ e. clash (cc)) again-no reads
+    where
+      again-no : (m : Line) → readingOf s ≡ Reading.Statement m → Fine st s m → Reading.Statement m ≡ Reading.Statement l → ⊥
+      again-no m q f e =
+          let same : m .operation ≡ Start = cc in
+          let z = again (st .phase) (roleOf (m .operation)) b (f .started) in
+          let no = rw same at z in
+          omega arith
 
 -- A DECK WITH START AT A PLACE, whose passes come down to the cards behind it
 
@@ -169,20 +146,14 @@ module _ (before : List (List ℕ)) (s : List ℕ) (after : List (List ℕ)) (na
     pub one-behind : (a : State) → passOne 1 fresh (before ++ s ∷ after) ≡ through a → passOne (cardBehind 1 before + 1) (begunOne name at) after ≡ through a
     one-behind a p = rw start-one at (pass-turn (cardBehind 1 before) fresh a s after (comments-one (s ∷ after) before comments 1 fresh a p) .1)
 
-    module _ (look : ℕ → Meaning) where
-      pub two-behind : checkTwo look 1 outset (before ++ s ∷ after) ≡ clean → checkTwo look (cardBehind 1 before + 1) (begunTwo at) after ≡ clean
-      two-behind p =
-          rw (start-two look) at (check-turn look (cardBehind 1 before) outset s after (comments-clean (s ∷ after) look outset before comments 1 p) .1)
-
-      pub records-behind : cardRecords look 1 outset (before ++ s ∷ after) ≡ cardRecords look (cardBehind 1 before + 1) (begunTwo at) after
-      unfolding cardRecords
-      records-behind =
-          comments-records (s ∷ after) look outset before comments 1
-          ∙ rw (line-pieces s (card .line) (card .reads) (card .operation) look, start-two look)
-
-      pub entry-behind : entryFrom look outset (before ++ s ∷ after) ≡ entryFrom look (begunTwo at) after
-      unfolding entryFrom
-      entry-behind =
-          comments-entry (s ∷ after) look outset before comments
-          ∙ line-entry s (card .line) (card .reads) (card .operation) look (entryFrom look (stepTwo look outset s) after)
-          ∙ ap (λ c. entryFrom look c after) (start-two look)
+    pub two-behind : (look : ℕ → Meaning)
+        → (checkTwo look 1 outset (before ++ s ∷ after) ≡ clean → checkTwo look (cardBehind 1 before + 1) (begunTwo at) after ≡ clean)
+        × (cardRecords look 1 outset (before ++ s ∷ after) ≡ cardRecords look (cardBehind 1 before + 1) (begunTwo at) after)
+        × (entryFrom look outset (before ++ s ∷ after) ≡ entryFrom look (begunTwo at) after)
+    unfolding cardRecords entryFrom
+    two-behind look =
+        let (two, records, entry) = comments-two (s ∷ after) look outset before comments 1 in (
+          λ p. rw (start-two look) at (check-turn look (cardBehind 1 before) outset s after (two p) .1),
+          records ∙ rw (line-pieces s (card .line) (card .reads) (card .operation) look, start-two look),
+          entry ∙ line-entry s (card .line) (card .reads) (card .operation) look (entryFrom look (stepTwo look outset s) after) ∙ ap (λ c. entryFrom look c after) (start-two look),
+        )

@@ -1,26 +1,17 @@
 -- LOADED (R21.3, R17.2). Each byte of a record's moved text is in storage at its place plus the displacement,
 -- where no later record overlays it; every other place is as it was (`storage-other`).
-use Prim.Native.Nat.{ℕ, _+_, _≤_, _<_}
-use mathlib.Core.List.{List, [], _∷_, _++_}
-use mathlib.Core.Bool.{true}
-use mathlib.Core.Option.{some}
-use mathlib.Core.Path.{_≡_, ap, _∙_}
-use native.Mathlib.Omega.{arith}
-use lib.ListN.{length, getD}
-use Rattle.values.specs.declared.Displacement.{Displacement}
-use Rattle.book.specs.declared.Entry.{Entry}
-use Rattle.book.specs.Book.{Record, Book, bookOf}
+use Rattle.theorems.specs.Logic.{ℕ, _+_, _≤_, _<_, List, [], _∷_, _++_, true, some, _≡_, ap, _∙_, arith, length, getD}
+use Rattle.theorems.specs.Types.{Displacement, Entry, Record, Book}
+use Rattle.book.specs.Book.{bookOf}
 use Rattle.book.specs.Writing.{fairAll}
 use Rattle.fields.specs.Fields.{movedText}
 use Rattle.fields.proofs.Laws.{moved-length}
 use Rattle.load.specs.declared.Loaded.the-variants.{Stored}
 use Rattle.load.specs.Load.{Outcome, stored, storedAll, firstCard, outside, roomIn, loading}
 use Rattle.load.proofs.Laws.{none-fails, inside-is, stored-is}
-use Rattle.theorems.proofs.Stores.{sets-there}
-use Rattle.theorems.proofs.Untouched.{OutsideAll, stored-size, stored-other}
+use Rattle.theorems.proofs.Untouched.{sets-there, OutsideAll, stored-size, stored-other}
 use Rattle.book.proofs.Written.{fair-first, read-fair}
 use Rattle.theorems.proofs.Outcomes.{Load, load}
-use Rattle.theorems.proofs.Outcomes.Load.{isStored}
 
 -- THE BYTES OF A RECORD
 
@@ -54,7 +45,7 @@ module _ (s : List ℕ) (d : Displacement) (m : List ℕ) where
   storage-holds bytes at a b q before r later rs i h out = go (rw a at (load s d m))
     where
       go : {bytes : ℕ} {at : Entry} {x : List ℕ} → Load s d m (Stored bytes at) x → getD x (r .address + d .0 + i) 0 ≡ getD (movedText d r) i 0
-      go (isStored c f j u o w x l) =
+      go (Load.isStored c f j u o w x l) =
           let same : c ≡ b = cc in
           let are : c .records ≡ before ++ r ∷ later = ap (λ (x : Book). x .records) same ∙ rs in
           ap (λ x. getD (storedAll d x m) (r .address + d .0 + i) 0) are

@@ -1,63 +1,46 @@
 -- SUMS (R21.3): no count is made up, each is a sum over cards or records.
 -- R15.2: the book's length and the count of names; R17.9: the bytes stored.
-use Prim.Native.Nat.{ℕ, suc, _+_, _<_}
-use mathlib.Core.List.{List, [], _∷_}
-use mathlib.Core.Bool.{Bool, true, false}
-use mathlib.Core.Option.{some}
-use mathlib.Core.Path.{_≡_, refl, ap, _∙_}
-use native.Mathlib.Omega.{arith}
-use lib.ListN.{length, getD, length-append}
-use lib.Dec.{eqb}
+use Rattle.theorems.specs.Logic.{ℕ, suc, _+_, _<_, List, [], _∷_, Bool, true, false, some, _≡_, refl, ap, _∙_, arith, length, getD, length-append, eqb}
+use Rattle.theorems.specs.Types.{Displacement, Name, Entry, Reading, Line, Course, Meaning, Record, Book, Piece, State, through, made}
 use Rattle.values.specs.Tests.{pick}
-use Rattle.values.specs.declared.Displacement.{Displacement}
-use Rattle.names.specs.declared.Name.{Name}
 use Rattle.names.specs.Names.{defined}
 use Rattle.names.proofs.Names.{defined-length}
-use Rattle.book.specs.declared.Entry.{Entry}
-use Rattle.book.specs.Book.{Record, Book, bookOf}
+use Rattle.book.specs.Book.{bookOf}
 use Rattle.book.specs.Writing.{recordBytes, recordsBytes, bookBytes}
 use Rattle.cards.specs.Source.{cardsOf}
-use Rattle.lines.specs.declared.Reading.{Reading}
 use Rattle.lines.specs.Lines.{readingOf}
-use Rattle.encode.specs.Pieces.{Piece, textOf}
+use Rattle.encode.specs.Pieces.{textOf}
 use Rattle.load.specs.declared.Loaded.the-variants.{Stored}
 use Rattle.load.specs.Load.{bytesStored, loading}
 use Rattle.passes.specs.declared.Assembled.the-variants.{Made}
-use Rattle.passes.specs.declared.Course.{Course}
 use Rattle.passes.specs.Cards.{nameLength}
-use Rattle.passes.specs.One.{namesAfter, State, fresh, readingStep, stepOne, passOne, oneNo, readingNo}
-use Rattle.passes.specs.One.Passed.{through}
+use Rattle.passes.specs.One.{namesAfter, fresh, readingStep, stepOne, passOne, oneNo}
 use Rattle.passes.specs.Two.{outset, stepTwo, cardPieces, withRecord, cardRecords, bookFrom}
 use Rattle.passes.specs.Assembly.{assembled, assembling}
-use Rattle.passes.specs.Assembly.Result.{made}
 use Rattle.passes.proofs.Turns.{pass-turn}
 use Rattle.theorems.specs.Readable.{makes}
 use Rattle.theorems.specs.Sums.{total, readingDefines, defines, textLength, recordLength}
 use Rattle.theorems.proofs.Grow.{line-value}
-use Rattle.theorems.proofs.Readable.{made-texts}
-use Rattle.passes.proofs.Fine.{fine, one-zero}
+use Rattle.theorems.proofs.Readable.{accepted-source}
+use Rattle.passes.proofs.Fine.{Fine}
 use Rattle.book.proofs.Written.{book-length}
 use Rattle.theorems.specs.Grow.{behind, behindTwo, lookIn}
-use Rattle.names.specs.declared.Meaning.{Meaning}
-use Rattle.theorems.proofs.Accepted.{pass-ended, both-passed}
+use Rattle.theorems.proofs.Accepted.{let-through, pass-ended}
 use Rattle.theorems.proofs.Outcomes.{made-way, Load, load}
-use Rattle.theorems.proofs.Outcomes.Load.{isStored}
 
 -- THE COUNT OF NAMES
 
 step-count : (st : State) (s : List ℕ) → oneNo st s ≡ 0 → length (stepOne st s .names) ≡ length (st .names) + defines s
 unfolding stepOne defines namesAfter
-step-count st s h = go (readingOf s) refl (one-zero st s h .2)
+step-count st s h = let-through st s h (λ x. length (readingStep st s x .names) ≡ length (st .names) + readingDefines x) (omega arith) line
   where
     named : (b : Bool) (x : Name) → length (pick b (st .names) (defined x (st .names))) ≡ length (st .names) + pick b 0 1
     named true x = omega arith
     named false x = defined-length x (st .names)
 
-    go : (x : Reading) → readingOf s ≡ x → readingNo st s x ≡ 0 → length (readingStep st s x .names) ≡ length (st .names) + readingDefines x
-    go Reading.Comment q h = omega arith
-    go Reading.BadName q h = omega arith
-    go (Reading.Statement l) q h =
-        let (v, is) = line-value st s l q (fine st s l h) in
+    line : (l : Line) → readingOf s ≡ Reading.Statement l → Fine st s l → length (namesAfter st s l) ≡ length (st .names) + pick (eqb (l .name) 0) 0 1
+    line l q f =
+        let (v, is) = line-value st s l q f in
         rw is (named (eqb (l .name) 0) (record { number = l .name; value = v; length = nameLength (l .operation) (l .shape) }))
 
 pass-count : (ss : List (List ℕ)) (k : ℕ) (st a : State) → passOne k st ss ≡ through a → length (a .names) ≡ length (st .names) + total defines ss
@@ -106,7 +89,7 @@ module _ (ss : List (List ℕ)) (n : ℕ) (b : Book) (h : assembled ss ≡ made 
   -- the count of names is the number of cards that define one
   pub count-of-names : n ≡ total defines ss
   count-of-names =
-      let p = both-passed ss n b h in
+      let p = accepted-source ss n b h in
       let names = pass-count ss 1 fresh (p .end) (p .one) in
       omega arith
 
@@ -114,7 +97,7 @@ module _ (ss : List (List ℕ)) (n : ℕ) (b : Book) (h : assembled ss ≡ made 
   pub bytes-of-cards : total textLength (b .records) ≡ total makes ss
   unfolding bookFrom
   bytes-of-cards =
-      let x = made-texts ss n b h in
+      let x = accepted-source ss n b h in
       ap (λ (x : Book). total textLength (x .records)) (x .book) ∙ records-bytes (lookIn ss) ss 1 outset (λ k i. x .sized k i .1)
 
 -- the bytes stored by an accepted load are the sum of the records' text lengths
@@ -123,7 +106,7 @@ pub bytes-of-load : (s : List ℕ) (d : Displacement) (m : List ℕ) (bytes : �
 bytes-of-load s d m bytes at h = go (rw h at (load s d m))
   where
     go : {bytes : ℕ} {at : Entry} {x : List ℕ} → Load s d m (Stored bytes at) x → (b : Book) × (bookOf s ≡ some b) × (bytes ≡ total textLength (b .records))
-    go (isStored b f i u o at x l) = (b, f, stored-sum (b .records))
+    go (Load.isStored b f i u o at x l) = (b, f, stored-sum (b .records))
 
 -- of the call: the answer's two numbers
 pub counts-of-call : (width : ℕ) (source work out : List ℕ) (bytes names : ℕ) → assembling width source work out .answer ≡ Made bytes names

@@ -1,68 +1,38 @@
 -- How long a card's text is, that no value in it is over 65535, and that its fields lie inside it.
-use Prim.{tt}
-use Prim.Native.Nat.{ℕ, zero, suc, _+_, _-_, _*_, _/_, _%_, _≤_, _<_}
-use mathlib.Core.List.{List, [], _∷_, _++_, map}
-use mathlib.Core.Bool.{Bool, true, false}
-use mathlib.Core.Path.{_≡_, refl, sym, ap, _∙_}
-use native.Mathlib.Omega.{arith}
-use lib.ListN.{length, length-append}
-use lib.Dec.{leb, eqb}
-use borrow.Author.Tests.{eqb-true, eqb-false}
+use Rattle.theorems.specs.Logic.{tt, ℕ, zero, suc, _+_, _-_, _*_, _/_, _%_, _≤_, _<_, List, [], _∷_, _++_, map, Bool, true, false, _≡_, refl, sym, ap, _∙_, arith, length, length-append, leb, eqb, eqb-true, eqb-false}
+use Rattle.theorems.specs.Types.{Value, Wanted, Meaning, Evaluated, Operation, Use, Pattern, DataType, DataCard, Data, Item, Address, Shape, Operands, Base, Bases, Operand, Placed, Code, Course, Piece, plain, value, State}
 use Rattle.values.specs.Tests.{pick, both}
-use Rattle.values.specs.declared.Value.{Value}
-use Rattle.values.specs.declared.Wanted.{Wanted}
 use Rattle.values.specs.Values.{amountOf}
 use Rattle.values.proofs.Refusals.{lower-zero}
-use Rattle.names.specs.declared.Meaning.{Meaning}
-use Rattle.expressions.specs.declared.Evaluated.{Evaluated}
 use Rattle.expressions.specs.Form.{expressionAt}
 use Rattle.expressions.specs.Value.{evaluated, refusalFor}
 use Rattle.expressions.proofs.Laws.{accepted, accepted-absolute, value-fits}
-use Rattle.operations.specs.declared.Operation.{Operation}
-use Rattle.operations.specs.declared.traits.Use.{Use}
-use Rattle.operations.specs.declared.traits.Pattern.{Pattern}
 use Rattle.operations.specs.Traits.{firstWanted, useOf, fixedSize}
-use Rattle.data.specs.declared.DataType.{DataType}
-use Rattle.data.specs.declared.DataCard.{DataCard}
-use Rattle.data.specs.declared.Data.{Data}
 use Rattle.data.specs.Sizes.{longest, dataSize, dataNoBy, dataNo}
 use Rattle.data.specs.Text.{constantText}
 use Rattle.data.proofs.Fine.{fits-length, constant-fine}
 use Rattle.data.proofs.Texts.{text-length}
 use Rattle.book.specs.Book.{fieldsFit}
 use Rattle.book.proofs.Laws.{fields-more, fields-none}
-use Rattle.addresses.specs.declared.Item.{Item}
-use Rattle.addresses.specs.declared.Address.{Address}
-use Rattle.forms.specs.declared.Shape.{Shape}
 use Rattle.forms.specs.Shape.{ofData}
 use Rattle.forms.specs.Size.{addressSize}
-use Rattle.operands.specs.declared.Operands.{Operands}
 use Rattle.operands.specs.Operands.{itemOf, addressOf, byType, byCard, operandsOf}
 use Rattle.operands.specs.Kinds.{itemNo, addressNo, constantWanted, expressionsNo}
-use Rattle.places.specs.declared.Base.{Base}
-use Rattle.places.specs.declared.Bases.{Bases}
-use Rattle.places.specs.declared.Operand.{Operand}
-use Rattle.places.specs.declared.Placed.{Placed}
-use Rattle.places.specs.declared.codes.Code.{Code}
 use Rattle.places.specs.Codes.{codeOf, codeNo}
 use Rattle.places.specs.Places.{isRegister, baseOf, awayFrom, underBase, displacedBy, indexedBy, byRegister, operandOf, placedNo, jumpTo, useNo, placesNo}
 use Rattle.places.proofs.Laws.{code-there, jump-there}
 use Rattle.statements.proofs.Laws.{jump-wants, accepted-card}
 use Rattle.passes.specs.Cards.{operandsAt}
 use Rattle.statements.specs.Statements.{nextOf, twoOf, oneOf, jumpOf, statementFrom}
-use Rattle.encode.specs.Pieces.{Piece, textOf, offsetsFrom, operandPieces, addressPieces, copied, piecesOf}
-use Rattle.encode.specs.Pieces.Piece.{plain, value}
+use Rattle.encode.specs.Pieces.{textOf, offsetsFrom, operandPieces, addressPieces, copied, piecesOf}
 use Rattle.encode.proofs.Laws.{text-append, plain-text, copied-size}
-use Rattle.lines.specs.declared.Reading.{Reading}
-use Rattle.lines.specs.Lines.{readingOf, operandColumns}
-use Rattle.passes.specs.declared.Course.{Course}
-use Rattle.passes.specs.One.{State, readingNo, oneNo}
+use Rattle.lines.specs.Lines.{operandColumns}
+use Rattle.passes.specs.One.{oneNo}
 use Rattle.passes.specs.Two.{readingTwoNo, twoNo, dataPieces, shapePieces, linePieces, readingPieces, cardPieces}
-use Rattle.passes.proofs.Fine.{fine, one-zero}
 use Rattle.theorems.specs.Readable.{dataMakes, textSize, readingMakes, makes}
 use Rattle.theorems.proofs.Lines.{Has, line-has, jumps, Fixed, row-of}
-use Rattle.theorems.proofs.Lines.Has.{fails, starts, lone, nothing, maybe, constant, reserve, pair, two, one, only, target}
 use Rattle.theorems.proofs.RaisedText.{Low}
+use Rattle.theorems.proofs.Accepted.{let-through}
 
 -- PIECES
 
@@ -222,33 +192,30 @@ module _ (look : ℕ → Meaning) (here : ℕ) (bases : Bases) (o : List ℕ) wh
         → expressionsNo op (operandsOf look here o x) ≡ 0 → codeNo (codeOf op (operandsOf look here o x)) ≡ 0 → placesNo (useOf op) (operandsOf look here o x) (nextOf op here) bases ≡ 0
         → Sized (textSize op x) (pieces x)
     unfolding operandsOf statementFrom expressionsNo codeOf placesNo piecesOf textOf
-    text-sized p x fails t n e c k = (tt, refl)
-    text-sized p x starts t n e c k = (tt, refl)
-    text-sized p x nothing t n e c k = (tt, refl)
-    text-sized p x lone t n e c k = rw t at (jump-sized op (codeOf op (Operands.Lone (expression 0))) (nextOf op here) (expression 0) (expression 0) c e k)
-    text-sized p x maybe t n e c k = rw t at (jump-sized op (codeOf op (Operands.Lone (expression 0))) (nextOf op here) (expression 0) (expression 0) c e k)
-    text-sized p x (constant {d}) t n e c k = data-sized d n e
-    text-sized p x (reserve {d}) t n e c k = data-sized d n e
-    text-sized p x (pair {q}) t n e c k =
+    text-sized p x Has.fails t n e c k = (tt, refl)
+    text-sized p x Has.starts t n e c k = (tt, refl)
+    text-sized p x Has.nothing t n e c k = (tt, refl)
+    text-sized p x Has.lone t n e c k = rw t at (jump-sized op (codeOf op (Operands.Lone (expression 0))) (nextOf op here) (expression 0) (expression 0) c e k)
+    text-sized p x Has.maybe t n e c k = rw t at (jump-sized op (codeOf op (Operands.Lone (expression 0))) (nextOf op here) (expression 0) (expression 0) c e k)
+    text-sized p x (Has.constant {d}) t n e c k = data-sized d n e
+    text-sized p x (Has.reserve {d}) t n e c k = data-sized d n e
+    text-sized p x (Has.pair {q}) t n e c k =
         resized (pieces (Shape.Pair q)) (sym t) (jump-sized op (codeOf op (Operands.Pair (expression 0) (expression q))) (nextOf op here) (expression 0) (expression q) c (lower-zero _ _ e .0) k)
-    text-sized p x (two {a = a} {b = b}) t n e c k =
+    text-sized p x (Has.two {a = a} {b = b}) t n e c k =
         let (e₀, e₁) = lower-zero _ _ e in
         let (k₀, k₁) = lower-zero _ _ k in
         rw t (two-sized op (codeOf op (Operands.TwoAddresses (addressOf look here o a) (addressOf look here o b))) _ _ _ _ c (operand-sized a e₀ k₀) (operand-sized b e₁ k₁))
-    text-sized p x (one {a} {q}) t n e c k =
+    text-sized p x (Has.one {a} {q}) t n e c k =
         rw t (one-sized op (codeOf op (Operands.AddressAndCode (addressOf look here o a) (expression q))) _ _ c (operand-sized a (lower-zero _ _ e .0) k))
-    text-sized p x (only {a}) t n e c k = rw t (one-sized op (codeOf op (Operands.LoneAddress (addressOf look here o a))) _ _ c (operand-sized a e k))
-    text-sized p x target t n e c k =
+    text-sized p x (Has.only {a}) t n e c k = rw t (one-sized op (codeOf op (Operands.LoneAddress (addressOf look here o a))) _ _ c (operand-sized a e k))
+    text-sized p x Has.target t n e c k =
         resized (pieces Shape.Target) (ap (λ b. pick b 3 0) (t .0) ∙ sym (t .1)) (jump-sized op (codeOf op (Operands.Lone (expression 0))) (nextOf op here) (expression 0) (expression 0) c e k)
 
 -- the text of a card that neither pass refuses has the bytes that the card makes
 pub card-sized : (st : State) (s : List ℕ) → oneNo st s ≡ 0 → (look : ℕ → Meaning) (c : Course) → twoNo look c s ≡ 0 → Sized (makes s) (cardPieces look c s)
 unfolding cardPieces linePieces makes textOf twoNo
-card-sized st s h look c k = go (readingOf s) refl (one-zero st s h .2) k
-  where
-    go : (x : Reading) → readingOf s ≡ x → readingNo st s x ≡ 0 → readingTwoNo look c s x ≡ 0 → Sized (readingMakes x) (readingPieces look c s x)
-    go Reading.Comment q h k = (tt, refl)
-    go Reading.BadName q h k = (tt, refl)
-    go (Reading.Statement l) q h k =
-        let x = accepted-card (l .operation) (operandsAt look (c .counter) s l) (c .counter) (c .bases) k in
-        text-sized look (c .counter) (c .bases) (operandColumns s l) (l .operation) _ (l .shape) (line-has s l q) (row-of (l .operation) .fixed) (fine st s l h .sizes) (x .expressions) (x .code) (x .places)
+card-sized st s h look c k =
+    let-through st s h (λ x. readingTwoNo look c s x ≡ 0 → Sized (readingMakes x) (readingPieces look c s x)) (λ k. (tt, refl))
+    (λ l q f k. let x = accepted-card (l .operation) (operandsAt look (c .counter) s l) (c .counter) (c .bases) k in
+    text-sized look (c .counter) (c .bases) (operandColumns s l) (l .operation) _ (l .shape) (line-has s l q) (row-of (l .operation) .fixed) (f .sizes) (x .expressions) (x .code) (x .places))
+    k

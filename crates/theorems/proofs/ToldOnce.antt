@@ -1,34 +1,21 @@
 -- TOLD ONCE (R21.1, R21.2). The contracts settle the whole reply and every lent byte:
 -- two replies that meet a public contract are the same. And packing is one to one: two different answers are never packed to the same number.
-use Prim.{Unit, tt}
-use Prim.Native.Nat.{ℕ, _+_, _*_, _^_, _≤_, _<_}
-use mathlib.Core.List.{List, [], _∷_}
-use mathlib.Core.Bool.{Bool, true, false}
-use mathlib.Core.Path.{_≡_, refl, sym, ap, _∙_}
-use native.Mathlib.Omega.{arith}
-use borrow.Author.Tests.{leb-true}
+use Rattle.theorems.specs.Logic.{Unit, tt, ℕ, _+_, _*_, _^_, _≤_, _<_, List, [], _∷_, Bool, true, false, _≡_, refl, sym, ap, _∙_, arith, leb-true}
+use Rattle.theorems.specs.Types.{Displacement, Entry, Loaded, Assembled, Record}
 use Rattle.values.specs.Tests.{pick}
-use Rattle.values.specs.declared.Displacement.{Displacement}
-use Rattle.book.specs.declared.Entry.{Entry}
-use Rattle.book.specs.Book.{Record}
 use Rattle.book.specs.Writing.{entryFits, fairAll}
-use Rattle.load.specs.declared.Loaded.{Loaded}
 use Rattle.load.specs.Load.{bytesStored, firstCard, loading}
-use Rattle.passes.specs.declared.Assembled.{Assembled}
 use Rattle.passes.specs.One.{fresh}
 use Rattle.passes.specs.Assembly.{assembling}
 use Rattle.passes.proofs.Names.{pass-few}
 use Rattle.cards.specs.Source.{cardsOf}
 use Rattle.mersclund.specs.Packed.{packedEntry, packedLoad, packedAssembled}
 use Rattle.theorems.specs.ToldOnce.{Loads, Assembles, Prints}
-use Rattle.theorems.proofs.Accepted.{both-passed}
 use Rattle.theorems.proofs.Numbers.{cards-range}
 use Rattle.book.proofs.Written.{book-length, records-length, fair-first, read-fair}
-use Rattle.theorems.proofs.Readable.{fair-records}
+use Rattle.theorems.proofs.Readable.{accepted-source, fair-records}
 use Rattle.theorems.proofs.Outcomes.{cards-few, Way, way, Load, load}
-use Rattle.theorems.proofs.Outcomes.Way.{atOnce, byCards, tooLong, whole}
 use Rattle.theorems.proofs.Outcomes.Why.{isBroken, isOutside, isOver, isEntryOver}
-use Rattle.theorems.proofs.Outcomes.Load.{isRefused, isStored}
 
 -- ONE REPLY
 
@@ -77,11 +64,11 @@ load-fits : (s : List ℕ) (d : Displacement) (m : List ℕ) → Fits (loading s
 load-fits s d m = go (load s d m)
   where
     go : {a : Loaded} {x : List ℕ} → Load s d m a x → Fits a
-    go (isRefused (isBroken f)) = tt
-    go (isRefused (isOutside b f n)) = first-low _ (b .records) 0 (read-fair s b f)
-    go (isRefused (isOver b f i n)) = first-low _ (b .records) 0 (read-fair s b f)
-    go (isRefused (isEntryOver b f i u o)) = omega arith
-    go (isStored b f i u o at x l) = let low = stored-low (b .records) 0 (read-fair s b f) (omega arith) in (omega arith, l)
+    go (Load.isRefused (isBroken f)) = tt
+    go (Load.isRefused (isOutside b f n)) = first-low _ (b .records) 0 (read-fair s b f)
+    go (Load.isRefused (isOver b f i n)) = first-low _ (b .records) 0 (read-fair s b f)
+    go (Load.isRefused (isEntryOver b f i u o)) = omega arith
+    go (Load.isStored b f i u o at x l) = let low = stored-low (b .records) 0 (read-fair s b f) (omega arith) in (omega arith, l)
 
 -- PACKING ONE TO ONE
 
@@ -135,14 +122,14 @@ assemble-fits : (width : ℕ) (source work out : List ℕ) → FitsIn (assemblin
 assemble-fits width source work out = go (way width source work out)
   where
     go : {a : Assembled} {w o : List ℕ} → Way width source work out a w o → FitsIn a
-    go (atOnce n l u) = (l, omega arith, omega arith)
-    go (byCards w f n k e) =
+    go (Way.atOnce n l u) = (l, omega arith, omega arith)
+    go (Way.byCards w f n k e) =
         let r = cards-range (cardsOf width source) n k e in
         let few = cards-few width source f in
         (omega arith, omega arith, omega arith)
-    go (tooLong w) = (omega arith, omega arith, omega arith)
-    go (whole w f n b e l) =
-        let p = both-passed (cardsOf width source) n b e in
+    go (Way.tooLong w) = (omega arith, omega arith, omega arith)
+    go (Way.whole w f n b e l) =
+        let p = accepted-source (cardsOf width source) n b e in
         let names = pass-few (cardsOf width source) 1 fresh (p .end) (p .one) (omega arith) in
         let size = book-length b in
         let (low, _) = records-length (b .records) 0 (fair-records (cardsOf width source) (cards-few width source f) n b e) (omega arith) in

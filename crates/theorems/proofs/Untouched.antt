@@ -1,24 +1,10 @@
 -- REFUSED MEANS UNTOUCHED (R21.2). Assembling (R15.5, R15.6): a refusal leaves the output, an accepted call leaves what is past the book; the work area is cleared,
 -- but not by 1, 2 and 3. Loading (R17.3, R17.8): a refusal stores nothing, and what is behind 65,536 bytes stays.
 -- Printing (R18.1, R18.2): a refusal is one line and nothing else.
-use Prim.Native.Nat.{ℕ, _+_, _≤_, _<_}
-use mathlib.Core.List.{List, [], _∷_, _++_, List·Memᴰ}
-use mathlib.Core.List.List·Memᴰ.{List·Memᴰ·head, List·Memᴰ·tail}
-use mathlib.Core.Bool.{Bool, true, false}
-use mathlib.Core.Option.{none, some}
-use mathlib.Core.Path.{_≡_, refl, ap, _∙_}
-use mathlib.Core.Logic.{_⊎_, inl, inr}
-use native.Mathlib.Omega.{arith}
-use lib.ListN.{length, getD, drop, replicate, length-append, length-drop, length-replicate, getD-replicate, List·getD-append}
-use lib.Dec.{leb}
-use borrow.Author.Tests.{le-ltb, lt-ltb, leb-true}
 use Rattle.values.specs.Tests.{pick}
 use Rattle.values.proofs.Laws.{both-true, clash}
-use lib.Seq.{sets, length-sets, drop-at}
-use Rattle.values.specs.declared.Displacement.{Displacement}
 use Rattle.names.specs.Table.{zeroed}
-use Rattle.book.specs.declared.Entry.{Entry}
-use Rattle.book.specs.Book.{Record, Book, recordsFrom, headerOk, entryAt, withEntry, bookOf}
+use Rattle.book.specs.Book.{recordsFrom, headerOk, entryAt, withEntry, bookOf}
 use Rattle.book.specs.Writing.{bookBytes, fairAll}
 use Rattle.cards.specs.Source.{cardsOf}
 use Rattle.passes.specs.Assembly.{workSize, Outcome, assembling}
@@ -28,14 +14,32 @@ use Rattle.load.specs.Load.{Outcome as LoadOutcome, stored, storedAll, bytesSto
 use Rattle.load.proofs.Laws.{none-fails, inside-is, stored-ways}
 use Rattle.print.specs.Print.{headerLine, recordLines, refused50, refused57, linesOf, printed, whereRoom}
 use Rattle.print.proofs.Laws.{header-length, no-room}
-use Rattle.theorems.proofs.Stores.{sets-other, drop-sets}
-use Rattle.theorems.proofs.Numbers.{cards-number, cards-range}
-use Rattle.passes.specs.declared.Assembled.{Assembled}
-use Rattle.load.specs.declared.Loaded.{Loaded}
 use Rattle.book.proofs.Written.{fair-first, read-fair}
+use Rattle.theorems.specs.Logic.{ℕ, zero, suc, _+_, _≤_, _<_, List, [], _∷_, _≡_, refl, ap, _∙_, _⊎_, inl, inr, arith, length, getD, drop, set, length-set, sets, getD-set-same, getD-set-other, drop-set-lt, _++_, List·Memᴰ, List·Memᴰ·head, List·Memᴰ·tail, Bool, true, false, none, some, replicate, length-append, length-drop, length-replicate, getD-replicate, List·getD-append, leb, le-ltb, lt-ltb, leb-true, length-sets, drop-at}
+use Rattle.theorems.specs.Types.{Displacement, Entry, Assembled, Loaded, Record, Book}
+use Rattle.theorems.proofs.Numbers.{cards-number, cards-range}
 use Rattle.theorems.proofs.Outcomes.{Way, way, made-way, out-after, work-after, Load, load, storage-after}
-use Rattle.theorems.proofs.Outcomes.Way.{atOnce, byCards, tooLong, whole}
-use Rattle.theorems.proofs.Outcomes.Load.{isRefused, isStored}
+
+pub sets-other : (m : List ℕ) (at : ℕ) (vs : List ℕ) (i : ℕ) → (i < at) ⊎ (at + length vs ≤ i) → getD (sets m at vs) i 0 ≡ getD m i 0
+sets-other m at [] i h = refl
+sets-other m at (v ∷ vs) i (inl h) = sets-other (set m at v) (suc at) vs i (inl (omega arith)) ∙ getD-set-other m at i v 0 (λ e. omega arith)
+sets-other m at (v ∷ vs) i (inr h) = sets-other (set m at v) (suc at) vs i (inr (omega arith)) ∙ getD-set-other m at i v 0 (λ e. omega arith)
+
+-- what lies behind a place that the run does not reach
+pub drop-sets : (m : List ℕ) (at : ℕ) (vs : List ℕ) (n : ℕ) → at + length vs ≤ n → drop n (sets m at vs) ≡ drop n m
+drop-sets m at [] n h = refl
+drop-sets m at (v ∷ vs) n h = drop-sets (set m at v) (suc at) vs n (omega arith) ∙ drop-set-lt n m at v (omega arith)
+
+-- a run that has room is there afterwards
+pub sets-there : (m : List ℕ) (at : ℕ) (vs : List ℕ) (i : ℕ) → i < length vs → at + length vs ≤ length m → getD (sets m at vs) (at + i) 0 ≡ getD vs i 0
+sets-there m at [] i h room = absurd (omega arith)
+sets-there m at (v ∷ vs) zero h room =
+    let here : at + 0 ≡ at = omega arith in
+    ap (λ n. getD (sets (set m at v) (suc at) vs) n 0) here ∙ sets-other (set m at v) (suc at) vs at (inl (omega arith)) ∙ getD-set-same m at v 0 (omega arith)
+sets-there m at (v ∷ vs) (suc i) h room =
+    let next : at + suc i ≡ suc at + i = omega arith in
+    let size = length-set m at v in
+    ap (λ n. getD (sets (set m at v) (suc at) vs) n 0) next ∙ sets-there (set m at v) (suc at) vs i (omega arith) (omega arith)
 
 -- ZERO IN FRONT, as it was behind
 
@@ -64,9 +68,9 @@ module _ (width : ℕ) (source work out : List ℕ) where
   refused-output number card h = go (rw h at (way width source work out))
     where
       go : {n k : ℕ} {w o : List ℕ} → Way width source work out (Assembled.Refused n k) w o → o ≡ out
-      go (atOnce n l u) = refl
-      go (byCards w f n k e) = refl
-      go (tooLong w) = refl
+      go (Way.atOnce n l u) = refl
+      go (Way.byCards w f n k e) = refl
+      go (Way.tooLong w) = refl
 
   -- past the book it is unchanged
   pub past-the-book : (bytes names : ℕ) → after .answer ≡ Assembled.Made bytes names → drop bytes (after .out) ≡ drop bytes out
@@ -83,19 +87,19 @@ module _ (width : ℕ) (source work out : List ℕ) where
   early-work number card h low = go (rw h at (way width source work out)) low
     where
       go : {n k : ℕ} {w o : List ℕ} → Way width source work out (Assembled.Refused n k) w o → n ≤ 3 → w ≡ work
-      go (atOnce n l u) low = refl
-      go (byCards w f n k e) low = let high = cards-range (cardsOf width source) n k e .0 in absurd (omega arith)
-      go (tooLong w) low = absurd (omega arith)
+      go (Way.atOnce n l u) low = refl
+      go (Way.byCards w f n k e) low = let high = cards-range (cardsOf width source) n k e .0 in absurd (omega arith)
+      go (Way.tooLong w) low = absurd (omega arith)
 
   -- after every other answer its first 8,192 bytes are zero
   pub late-work : ((number card : ℕ) → after .answer ≡ Assembled.Refused number card → 3 < number) → (i x : ℕ) → i < workSize → getD (after .work) i x ≡ 0
   late-work late i x h = go late (way width source work out)
     where
       go : {a : Assembled} {w o : List ℕ} → ((number card : ℕ) → a ≡ Assembled.Refused number card → 3 < number) → Way width source work out a w o → getD w i x ≡ 0
-      go late (atOnce n l u) = let high = late n 0 refl in absurd (omega arith)
-      go late (byCards w f n k e) = zeroed-front workSize work i x h
-      go late (tooLong w) = zeroed-front workSize work i x h
-      go late (whole w f n b e l) = zeroed-front workSize work i x h
+      go late (Way.atOnce n l u) = let high = late n 0 refl in absurd (omega arith)
+      go late (Way.byCards w f n k e) = zeroed-front workSize work i x h
+      go late (Way.tooLong w) = zeroed-front workSize work i x h
+      go late (Way.whole w f n b e l) = zeroed-front workSize work i x h
 
   -- beyond them it never changes
   pub work-beyond : drop workSize (after .work) ≡ drop workSize work
@@ -118,9 +122,9 @@ module _ (width : ℕ) (source work out : List ℕ) where
       cards n k (inr x) = inr (inr (inl x))
 
       go : {n k : ℕ} {w o : List ℕ} → Way width source work out (Assembled.Refused n k) w o → Refusal n k
-      go (atOnce n l u) = inl (l, u, refl)
-      go (byCards w f n k e) = cards n k (cards-number (cardsOf width source) n k e)
-      go (tooLong w) = inr (inr (inr (refl, refl)))
+      go (Way.atOnce n l u) = inl (l, u, refl)
+      go (Way.byCards w f n k e) = cards n k (cards-number (cardsOf width source) n k e)
+      go (Way.tooLong w) = inr (inr (inr (refl, refl)))
 
 -- LOADING
 
@@ -174,8 +178,8 @@ module _ (s : List ℕ) (d : Displacement) (m : List ℕ) where
   refused-storage no-load = go no-load (load s d m)
     where
       go : {a : Loaded} {x : List ℕ} → ((bytes : ℕ) (at : Entry) → a ≡ Loaded.Stored bytes at → ⊥) → Load s d m a x → x ≡ m
-      go none-stored (isRefused w) = refl
-      go none-stored (isStored b f i u o at x l) = absurd (none-stored (bytesStored (b .records)) at refl)
+      go none-stored (Load.isRefused w) = refl
+      go none-stored (Load.isStored b f i u o at x l) = absurd (none-stored (bytesStored (b .records)) at refl)
 
   -- bytes behind 65,536 never change
   pub storage-beyond : drop 65536 (loaded .storage) ≡ drop 65536 m

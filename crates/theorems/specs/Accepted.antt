@@ -1,11 +1,7 @@
 -- What each pass says of each card, and the first card that it refuses.
-use Prim.Native.Nat.{ℕ, _+_, _<_}
-use mathlib.Core.List.{List, []}
-use mathlib.Core.Path.{_≡_}
-use lib.ListN.{length, getD}
-use Rattle.names.specs.declared.Meaning.{Meaning}
-use Rattle.passes.specs.declared.Course.{Course}
-use Rattle.passes.specs.One.{State, fresh, oneNo}
+use Rattle.theorems.specs.Logic.{ℕ, _+_, _<_, List, [], _≡_, length, getD}
+use Rattle.theorems.specs.Types.{Meaning, Course, State}
+use Rattle.passes.specs.One.{fresh, oneNo}
 use Rattle.passes.specs.Two.{twoNo}
 use Rattle.theorems.specs.Grow.{behindOne, behindTwo}
 

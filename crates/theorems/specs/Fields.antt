@@ -1,14 +1,7 @@
 -- The card and the record that belong together, and where a relocatable value starts in a text.
-use Prim.Native.Nat.{ℕ, suc, _+_, _≤_, _<_}
-use mathlib.Core.List.{List, [], _∷_, _++_, List·Memᴰ}
-use mathlib.Core.Path.{_≡_}
-use mathlib.Core.Logic.{_⊎_}
-use lib.ListN.{length, getD}
-use Rattle.values.specs.declared.Relocatable.{Relocatable}
-use Rattle.values.specs.declared.Value.{Value}
-use Rattle.book.specs.Book.{Record}
-use Rattle.encode.specs.Pieces.{Piece, textOf}
-use Rattle.encode.specs.Pieces.Piece.{value}
+use Rattle.theorems.specs.Logic.{ℕ, suc, _+_, _≤_, _<_, List, [], _∷_, _++_, List·Memᴰ, _≡_, _⊎_, length, getD}
+use Rattle.theorems.specs.Types.{Relocatable, Value, Record, Piece, value}
+use Rattle.encode.specs.Pieces.{textOf}
 use Rattle.passes.specs.Two.{outset, cardPieces, recordOfPieces}
 use Rattle.theorems.specs.Grow.{behindTwo, lookIn, counterOne}
 

@@ -1,19 +1,12 @@
 -- How far each pass has got, and what names that only grow keep.
-use Prim.Native.Nat.{ℕ, zero, suc}
-use mathlib.Core.List.{List, [], _∷_}
-use mathlib.Core.Path.{_≡_}
-use Rattle.values.specs.declared.Value.{Value}
-use Rattle.names.specs.declared.Name.{Name}
-use Rattle.names.specs.declared.Meaning.{Meaning}
+use Rattle.theorems.specs.Logic.{ℕ, zero, suc, List, [], _∷_, _≡_}
+use Rattle.theorems.specs.Types.{Value, Name, Meaning, Reading, Course, State, Passed, through, stopped}
 use Rattle.names.specs.declared.Meaning.the-variants.{Known}
 use Rattle.names.specs.Names.{find}
 use Rattle.forms.specs.Size.{sizeOf}
-use Rattle.lines.specs.declared.Reading.{Reading}
 use Rattle.lines.specs.declared.Reading.the-variants.{Comment, BadName, Statement}
 use Rattle.lines.specs.Lines.{readingOf}
-use Rattle.passes.specs.declared.Course.{Course}
-use Rattle.passes.specs.One.{State, Passed, fresh, stepOne, passOne}
-use Rattle.passes.specs.One.Passed.{through, stopped}
+use Rattle.passes.specs.One.{fresh, stepOne, passOne}
 use Rattle.passes.specs.Two.{outset, stepTwo}
 
 -- what `look` says of a defined name, `more` says too: the same value and the same length

@@ -1,18 +1,12 @@
 -- Demand 3: what it asks of two decks, and a book moved by d.
-use Prim.Native.Nat.{ℕ, _+_}
-use mathlib.Core.List.{List, _∷_, _++_, map}
-use mathlib.Core.Path.{_≡_}
-use Rattle.encode.specs.Pieces.Piece.{value}
-use Rattle.book.specs.declared.Entry.{Entry}
+use Rattle.theorems.specs.Logic.{ℕ, _+_, List, _∷_, _++_, map, _≡_}
+use Rattle.theorems.specs.Types.{Entry, Line, Displacement, value, Record, Book}
 use Rattle.book.specs.declared.Entry.the-variants.{Absent, At}
-use Rattle.book.specs.Book.{Record, Book}
 use Rattle.fields.specs.Fields.{movedText}
 use Rattle.operations.specs.declared.Operation.the-variants.{Start}
-use Rattle.lines.specs.declared.Line.{Line}
 use Rattle.lines.specs.declared.Reading.the-variants.{Statement}
 use Rattle.lines.specs.Lines.{readingOf}
 use Rattle.forms.specs.Shape.{startOr}
-use Rattle.values.specs.declared.Displacement.{Displacement}
 
 -- R21.4: THE PREMISE of demand 3
 

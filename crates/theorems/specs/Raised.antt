@@ -1,21 +1,8 @@
 -- Operands, bases, pieces and the states of both passes raised by d: everything relocatable is d higher, all else stays.
-use Prim.Native.Nat.{ℕ, _+_}
-use mathlib.Core.List.{map}
-use Rattle.values.specs.declared.MaybeValue.{MaybeValue}
+use Rattle.theorems.specs.Logic.{ℕ, _+_, map}
+use Rattle.theorems.specs.Types.{MaybeValue, Evaluated, EvaluatedItem, EvaluatedAddress, Operands, Base, Bases, Operand, Placed, Course, Piece, plain, value, State}
 use Rattle.names.specs.Raised.{raisedValue, raisedName}
-use Rattle.expressions.specs.declared.Evaluated.{Evaluated}
 use Rattle.expressions.specs.declared.Evaluated.the-variants.{Good, Malformed, Undefined, WrongKind, OutOfRange}
-use Rattle.operands.specs.declared.EvaluatedItem.{EvaluatedItem}
-use Rattle.operands.specs.declared.EvaluatedAddress.{EvaluatedAddress}
-use Rattle.operands.specs.declared.Operands.{Operands}
-use Rattle.places.specs.declared.Base.{Base}
-use Rattle.places.specs.declared.Bases.{Bases}
-use Rattle.places.specs.declared.Operand.{Operand}
-use Rattle.places.specs.declared.Placed.{Placed}
-use Rattle.encode.specs.Pieces.{Piece}
-use Rattle.encode.specs.Pieces.Piece.{plain, value}
-use Rattle.passes.specs.declared.Course.{Course}
-use Rattle.passes.specs.One.{State}
 
 module _ (d : ℕ) where
   -- OPERANDS

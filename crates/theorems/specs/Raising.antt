@@ -1,13 +1,10 @@
 -- Names and counter raised by d, and what of an expression is known before its value.
-use Prim.Native.Nat.{ℕ}
-use mathlib.Core.List.{List, [], _∷_, _++_}
+use Rattle.theorems.specs.Logic.{ℕ, List, [], _∷_, _++_}
+use Rattle.theorems.specs.Types.{Meaning, Kind, Evaluated, Addend, Read}
 use Rattle.values.specs.Tests.{pick}
-use Rattle.names.specs.declared.Meaning.{Meaning}
 use Rattle.names.specs.Raised.{raisedMeaning}
-use Rattle.expressions.specs.declared.Kind.{Kind}
-use Rattle.expressions.specs.declared.Evaluated.{Evaluated}
 use Rattle.expressions.specs.declared.Evaluated.the-variants.{Good, Malformed, Undefined, WrongKind, OutOfRange}
-use Rattle.expressions.specs.Form.{Placed, Addend, Read}
+use Rattle.expressions.specs.Form.{Placed}
 use Rattle.expressions.specs.Form.Read.{upTo, fails}
 use Rattle.expressions.specs.Value.{placedFactor, kindOf}
 

@@ -1,14 +1,10 @@
 -- The text of a card, by its form.
-use Prim.Native.Nat.{ℕ}
-use mathlib.Core.List.{List}
-use Rattle.operations.specs.declared.Operation.{Operation}
-use Rattle.data.specs.declared.DataCard.{DataCard}
+use Rattle.theorems.specs.Logic.{ℕ, List}
+use Rattle.theorems.specs.Types.{Operation, DataCard, Shape, Reading}
 use Rattle.data.specs.declared.DataCard.the-variants.{Constant, Reserve}
 use Rattle.data.specs.Sizes.{dataSize}
-use Rattle.forms.specs.declared.Shape.{Shape}
 use Rattle.forms.specs.Shape.{ofData}
 use Rattle.forms.specs.Size.{sizeOf}
-use Rattle.lines.specs.declared.Reading.{Reading}
 use Rattle.lines.specs.declared.Reading.the-variants.{Comment, BadName, Statement}
 use Rattle.lines.specs.Lines.{readingOf}
 
