@@ -29,7 +29,7 @@ use values::MaybeValue;
 use values::numbers::or_else;
 ghost use mathlib.Core.Path.{_≡_};
 ghost use mathlib.Core.Bool.{true};
-ghost use Prim.Native.Nat.{_*_, _≤_, _<_};
+ghost use Prim.Native.Nat.{_*_, _^_, _≤_, _<_};
 ghost use lib.ListN.{length, drop};
 ghost use Rattle.names.specs.Names.{find, ascending};
 ghost use Rattle.names.specs.Table.{namesIn};
@@ -170,7 +170,7 @@ fn phase_after(role: Role, p: Phase) -> Phase
 // Behind a line that is let through.
 fn line_step(p: Pass, l: Line, e: Early, table: &mut [u8]) -> Pass
     requires { ⌜ (8192 ≤ length (now table)) × Fit p (now table) ⌝ }
-    requires { ⌜ (lineBy (standsFor p (now table)) l e ≡ 0) × (l .name < 281474976710656) ⌝ }
+    requires { ⌜ (lineBy (standsFor p (now table)) l e ≡ 0) × (l .name < 2 ^ 48) ⌝ }
     ensures { λ r. ⌜ (standsFor r (now (table .exit)) ≡ lineStepBy (standsFor p (now (table .entry))) l e) × (r .count ≤ 512) ⌝ }
     ensures { λ _. ⌜ drop 8192 (now (table .exit)) ≡ drop 8192 (now (table .entry)) ⌝ }
 {
