@@ -56,10 +56,11 @@ nameValueBy Advances v counter l = Is (Relocatable (record { 0 = placeNamed coun
 unfoldable pub nameValue : (ℕ → Meaning) → ℕ → List ℕ → Line → MaybeValue
 nameValue look counter s l = nameValueBy (roleOf (l .operation)) (valueAt look counter s l) counter l
 
--- R7.4, R7.5, R8.15, R9.10: a name's length: 1 of START and EQU, m of DC and DS, that of the instruction
+-- R8.15, R9.10: m of DC and DS, the bytes of an instruction
 abbrev pub fieldLength : Operation → Shape → ℕ
 fieldLength op x = ofData x (λ d. d .length) (sizeOf op x)
 
+-- R7.4, R7.5: a name's length, 1 of START and EQU
 abbrev pub nameLengthBy : Role → Operation → Shape → ℕ
 nameLengthBy Starts op x = 1
 nameLengthBy Equates op x = 1

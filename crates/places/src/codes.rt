@@ -1,4 +1,5 @@
 // An instruction's Q, and refusal 21 where a length, an item or a Q is out of range.
+use expressions::Evaluated;
 use expressions::absolute_in;
 use operands::EvaluatedAddress;
 use operands::EvaluatedItem;
@@ -10,6 +11,8 @@ use values::Absolute;
 use values::MaybeAbsolute;
 ghost use mathlib.Core.Path.{_≡_};
 ghost use Rattle.values.specs.Values.{withAbsolute};
+ghost use Rattle.expressions.specs.Value.{absoluteIn};
+ghost use Rattle.operations.specs.declared.traits.Rule.the-variants.{Lengths, Length, Item};
 ghost use Rattle.places.specs.declared.codes.Code.the-variants.{Nothing};
 ghost use Rattle.places.specs.Codes.{lengthsCode, lengthCode, itemCode, registerCode, writtenCode, itemOr, lengthOr, twoCode, behindCode, givenCode, codeOf, codeNo};
 
@@ -144,28 +147,53 @@ fn written_of(q: MaybeAbsolute) -> Code
     }
 }
 
+// A length on each address.
+fn each_length(a: EvaluatedAddress, b: EvaluatedAddress) -> Code
+    ensures { λ r. ⌜ r ≡ twoCode Lengths a b ⌝ }
+{
+    let first = a.length;
+    let second = b.length;
+    lengths_of(length_or(first, a), length_or(second, b))
+}
+
+// One length, that of the first address where none is written.
+fn one_length(a: EvaluatedAddress, b: EvaluatedAddress) -> Code
+    ensures { λ r. ⌜ r ≡ twoCode Length a b ⌝ }
+{
+    let first = a.length;
+    let second = b.length;
+    length_of(item_or(first, length_or(second, a)))
+}
+
+// MVX's item.
+fn one_item(a: EvaluatedAddress, b: EvaluatedAddress) -> Code
+    ensures { λ r. ⌜ r ≡ twoCode Item a b ⌝ }
+{
+    let first = a.length;
+    let second = b.length;
+    item_of(item_or(first, item_or(second, MaybeAbsolute::Nothing)))
+}
+
 // Q of a card with two addresses.
 fn two_code(rule: Rule, a: EvaluatedAddress, b: EvaluatedAddress) -> Code
     ensures { λ r. ⌜ r ≡ twoCode rule a b ⌝ }
 {
-    let first = a.length;
-    let second = b.length;
     match rule {
-        Rule::Lengths => lengths_of(length_or(first, a), length_or(second, b)),
-        Rule::Length => length_of(item_or(first, length_or(second, a))),
-        Rule::Item => item_of(item_or(first, item_or(second, MaybeAbsolute::Nothing))),
+        Rule::Lengths => each_length(a, b),
+        Rule::Length => one_length(a, b),
+        Rule::Item => one_item(a, b),
         Rule::Given(q) => Code::Byte(q),
         _ => Code::Nothing,
     }
 }
 
 // Q of a card that has it behind a comma.
-fn behind_code(rule: Rule, q: MaybeAbsolute) -> Code
-    ensures { λ r. ⌜ r ≡ behindCode rule q ⌝ }
+fn behind_code(rule: Rule, q: Evaluated) -> Code
+    ensures { λ r. ⌜ r ≡ behindCode rule (absoluteIn q) ⌝ }
 {
     match rule {
-        Rule::Register => register_of(q),
-        Rule::Written => written_of(q),
+        Rule::Register => register_of(absolute_in(q)),
+        Rule::Written => written_of(absolute_in(q)),
         Rule::Given(given) => Code::Byte(given),
         _ => Code::Nothing,
     }
@@ -187,8 +215,8 @@ pub fn code_of(op: Operation, x: Operands) -> Code
     let rule = rule_of(op);
     match x {
         Operands::TwoAddresses(a, b) => two_code(rule, a, b),
-        Operands::AddressAndCode(_, q) => behind_code(rule, absolute_in(q)),
-        Operands::Pair(_, q) => behind_code(rule, absolute_in(q)),
+        Operands::AddressAndCode(_, q) => behind_code(rule, q),
+        Operands::Pair(_, q) => behind_code(rule, q),
         _ => given_code(rule),
     }
 }

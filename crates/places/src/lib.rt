@@ -17,7 +17,9 @@ use values::Value;
 use values::numbers::lower_of;
 ghost use mathlib.Core.Path.{_≡_};
 ghost use Prim.Native.Nat.{_≤_};
+ghost use Rattle.values.specs.Tests.{lower};
 ghost use Rattle.values.specs.Values.{withAbsolute};
+ghost use Rattle.expressions.specs.Value.{valueIn, absoluteIn};
 ghost use Rattle.places.specs.declared.Placed.the-variants.{Nothing};
 ghost use Rattle.places.specs.Places.{baseOf, awayFrom, awayFromBase, underBase, displacedBy, indexedBy, byRegister, operandOf, placedNo, operandSize, jumpCode, jumpTo, reachNo, registerNo, useNo, placesNo, withBase, usingBase, dropBase, registeredBy, basesBy};
 
@@ -64,7 +66,8 @@ fn away_from(v: Value, r: u8, from: u16, amount: u16) -> Placed
     if 255 < amount - from {
         return Placed::OutOfReach;
     }
-    Placed::At(Operand::Indexed(v, r, (amount - from) as u8))
+    let displacement = (amount - from) as u8;
+    Placed::At(Operand::Indexed(v, r, displacement))
 }
 
 fn away_from_base(v: Value, r: u8, amount: u16, base: Value) -> Placed
@@ -211,17 +214,26 @@ fn use_no(u: Use, next: usize, first: Evaluated, last: Evaluated) -> u8
     }
 }
 
+fn address_place_no(bases: Bases, a: EvaluatedAddress) -> u8
+    ensures { λ r. ⌜ r ≡ placedNo (operandOf bases a) ⌝ }
+{
+    placed_no(operand_of(bases, a))
+}
+
+fn two_places_no(bases: Bases, a: EvaluatedAddress, b: EvaluatedAddress) -> u8
+    ensures { λ r. ⌜ r ≡ lower (placedNo (operandOf bases a)) (placedNo (operandOf bases b)) ⌝ }
+{
+    lower_of(address_place_no(bases, a), address_place_no(bases, b))
+}
+
 // `next`: the address behind the card.
 pub fn places_no(u: Use, x: Operands, next: usize, bases: Bases) -> u8
     ensures { λ r. ⌜ r ≡ placesNo u x next bases ⌝ }
 {
     match x {
-        Operands::TwoAddresses(a, b) => lower_of(
-            placed_no(operand_of(bases, a)),
-            placed_no(operand_of(bases, b)),
-        ),
-        Operands::AddressAndCode(a, _) => placed_no(operand_of(bases, a)),
-        Operands::LoneAddress(a) => placed_no(operand_of(bases, a)),
+        Operands::TwoAddresses(a, b) => two_places_no(bases, a, b),
+        Operands::AddressAndCode(a, _) => address_place_no(bases, a),
+        Operands::LoneAddress(a) => address_place_no(bases, a),
         Operands::Pair(e, last) => use_no(u, next, e, last),
         Operands::Lone(e) => use_no(u, next, e, e),
         _ => 0,
@@ -249,11 +261,11 @@ fn with_base(bases: Bases, r: u16, base: Base) -> Bases
 }
 
 // Behind a USING its base is in force.
-fn using_base(bases: Bases, register: MaybeAbsolute, base: MaybeValue) -> Bases
-    ensures { λ b. ⌜ b ≡ usingBase bases register base ⌝ }
+fn using_base(bases: Bases, register: Evaluated, base: Evaluated) -> Bases
+    ensures { λ b. ⌜ b ≡ usingBase bases (absoluteIn register) (valueIn base) ⌝ }
 {
-    match register {
-        MaybeAbsolute::Is(r) => match base {
+    match absolute_in(register) {
+        MaybeAbsolute::Is(r) => match value_in(base) {
             MaybeValue::Is(v) => with_base(bases, r.0, Base::Of(v)),
             MaybeValue::Nothing => bases,
         },
@@ -262,10 +274,10 @@ fn using_base(bases: Bases, register: MaybeAbsolute, base: MaybeValue) -> Bases
 }
 
 // Behind a DROP none is.
-fn drop_base(bases: Bases, register: MaybeAbsolute) -> Bases
-    ensures { λ b. ⌜ b ≡ dropBase bases register ⌝ }
+fn drop_base(bases: Bases, register: Evaluated) -> Bases
+    ensures { λ b. ⌜ b ≡ dropBase bases (absoluteIn register) ⌝ }
 {
-    match register {
+    match absolute_in(register) {
         MaybeAbsolute::Is(r) => with_base(bases, r.0, Base::Idle),
         MaybeAbsolute::Nothing => bases,
     }
@@ -275,8 +287,8 @@ fn registered(x: Operands, bases: Bases) -> Bases
     ensures { λ b. ⌜ b ≡ registeredBy x bases ⌝ }
 {
     match x {
-        Operands::Pair(e, r) => using_base(bases, absolute_in(r), value_in(e)),
-        Operands::Lone(r) => drop_base(bases, absolute_in(r)),
+        Operands::Pair(e, r) => using_base(bases, r, e),
+        Operands::Lone(r) => drop_base(bases, r),
         _ => bases,
     }
 }

@@ -1,9 +1,8 @@
 -- `finish` meets its contract: what was judged tells what was checked, and judging lays nothing.
 -- `finish` meets its contract: what was judged tells what was checked, and judging lays nothing.
 -- `finish` meets its contract: what was judged tells what was checked, and judging lays nothing.
-use mathlib.Core.Path.{_≡_, sym, ap}
+use mathlib.Core.Path.{sym, ap}
 use native.Mathlib.Omega.{arith}
-use Prim.Native.Nat.{ℕ}
 use lib.ListN.{length}
 use Rattle.values.proofs.Laws.{clash}
 use Rattle.names.specs.Table.{namesIn}
@@ -16,35 +15,12 @@ use borrow.Author.Needs.{needs}
 use Rattle.assemble.proofs.finish.Statement.{statement}
 use Rattle.assemble.proofs.finish.Tie as tie
 
--- src/lib.rt:50:11
-run-two-requires : tie.Need-run-two-requires
-run-two-requires c κs = let p = c .before .before .before .before .pre in (p .0, ((p .1 .0, p .1 .1), (λ on. clash (cc))))
-
--- src/lib.rt:51:25
-enum-known-number : tie.Need-enum-known-number
-enum-known-number c = search needs
-
--- src/lib.rt:52:22
-enum-known-size : tie.Need-enum-known-size
-enum-known-size c = search needs
-
--- src/lib.rt:52:31
 write-requires : tie.Need-write-requires
 write-requires c κs = let a = c .before .before .before .before .before .before .before .before .before .before .before .args in let names = namesIn (a .count) (a .table .now) in let ss = cardsOf (a .width) (a .source .now) in let x = checkedIn (a .width) (a .source .now) (a .table .now) (a .count) in let n = length (bytesIn (a .width) (a .source .now) (a .table .now) (a .count)) in let j = c .before .before .before .before .before .before .run-two .ensures in let p = c .before .before .before .before .before .before .before .before .before .before .before .pre in let is = c .before .before .size .given .1 in let same = ap judgedLength is in let most = j .0 .1 in let k = judged-book x n _ (j .0 .0) _ is in (p .0, (p .1, (sym (k .0), k .1, omega arith)))
 
--- src/lib.rt:44:1
-same-length : tie.Need-same-length
-same-length c = search needs
-
--- src/lib.rt:44:1
 returns : tie.Need-returns
 returns c = let a = c .before .before .before .before .before .before .before .before .before .before .args in let names = namesIn (a .count) (a .table .now) in let ss = cardsOf (a .width) (a .source .now) in let x = checkedIn (a .width) (a .source .now) (a .table .now) (a .count) in let n = length (bytesIn (a .width) (a .source .now) (a .table .now) (a .count)) in let j = c .before .before .before .before .before .run-two .ensures in refused-two ss names x _ _ (a .table .now) (a .out .now) _ (judged-refused x n _ (j .0 .0) _ _ (c .before .number .given .1)) (j .1)
 
--- src/lib.rt:44:1
-same-length-2 : tie.Need-same-length-2
-same-length-2 c = search needs
-
--- src/lib.rt:44:1
 returns-2 : tie.Need-returns-2
 unfolding bytesIn
 returns-2 c = let a = c .before .before .before .before .before .before .before .before .before .before .before .before .before .before .args in let names = namesIn (a .count) (a .table .now) in let ss = cardsOf (a .width) (a .source .now) in let x = checkedIn (a .width) (a .source .now) (a .table .now) (a .count) in let n = length (bytesIn (a .width) (a .source .now) (a .table .now) (a .count)) in let j = c .before .before .before .before .before .before .before .before .before .run-two .ensures in clean-two ss names x (a .table .now) (a .out .now) _ (a .count) _ _ (judged-book x n _ (j .0 .0) _ (c .before .before .before .before .before .size .given .1) .0) (j .1) (names-length (a .count) (a .table .now)) (c .before .before .write .ensures .0) (c .before .before .write .ensures .1)
@@ -53,11 +29,11 @@ pub finish-spec : {M : Type 1} → statement M
 finish-spec =
     tie.close
     (tie.spec
-    run-two-requires
-    enum-known-number
-    enum-known-size
+    (λ c κs. let p = c .before .before .before .before .pre in (p .0, ((p .1 .0, p .1 .1), (λ on. clash (cc)))))
+    (λ c. search needs)
+    (λ c. search needs)
     write-requires
-    same-length
+    (λ c. search needs)
     returns
-    same-length-2
+    (λ c. search needs)
     returns-2)

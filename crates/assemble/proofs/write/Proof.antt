@@ -7,29 +7,22 @@ use borrow.Author.Needs.{needs}
 use Rattle.assemble.proofs.write.Statement.{statement}
 use Rattle.assemble.proofs.write.Tie as tie
 
--- src/lib.rt:37:9
 returns : tie.Need-returns
 returns c = let a = c .before .before .before .before .args in past-output (a .count) (bytesIn (a .width) (a .source .now) (a .table .now) (a .count)) (a .table .now) (a .out .now) _ (c .before .before .before .before .pre .1 .1 .1) (c .if1 .taken)
 
--- src/lib.rt:39:13
 run-two-requires : tie.Need-run-two-requires
 run-two-requires c κs = let p = c .before .before .before .before .before .pre in let l = c .before .if1 .left in (p .0, ((p .1 .0 .0, p .1 .0 .1), (λ on. (p .1 .1 .0, rw (p .1 .1 .1) at l))))
 
--- src/lib.rt:40:21
-cast-t12 : tie.Need-cast-t12
-cast-t12 c = search needs
-
--- src/lib.rt:40:34
-cast-t13 : tie.Need-cast-t13
-cast-t13 c = search needs
-
--- src/lib.rt:22:1
-same-length : tie.Need-same-length
-same-length c = search needs
-
--- src/lib.rt:22:1
 returns-2 : tie.Need-returns-2
 returns-2 c = let a = c .before .before .before .before .before .before .before .before .args in book-written (a .count) (bytesIn (a .width) (a .source .now) (a .table .now) (a .count)) (a .table .now) (a .out .now) _ _ (c .before .before .before .before .before .before .before .before .pre .1 .1 .1) (c .before .before .before .before .if1 .left) (c .before .before .run-two .ensures .1)
 
 pub write-spec : {M : Type 1} → statement M
-write-spec = tie.close (tie.spec returns run-two-requires cast-t12 cast-t13 same-length returns-2)
+write-spec =
+    tie.close
+    (tie.spec
+    returns
+    run-two-requires
+    (λ c. search needs)
+    (λ c. search needs)
+    (λ c. search needs)
+    returns-2)

@@ -11,35 +11,14 @@ use borrow.Author.Needs.{needs}
 use Rattle.defining.proofs.enter.Statement.{statement}
 use Rattle.defining.proofs.enter.Tie as tie
 
-returns : tie.Need-returns
-returns c = let q = c .before .before .pre in ((rw (eq-eqb _ _ (c .if1 .taken)), q .0 .2), refl)
-
-name-length-requires : tie.Need-name-length-requires
-name-length-requires c κs = search needs
-
-cast-length : tie.Need-cast-length
-cast-length c = search needs
-
 name-value-requires : tie.Need-name-value-requires
 name-value-requires c κs = let a = c .before .before .before .args in if-named (a .l .name) _ (c .before .if1 .left) (c .before .before .before .pre .1 .low)
-
-enum-told : tie.Need-enum-told
-enum-told c = search needs
-
-enum-known-value : tie.Need-enum-known-value
-enum-known-value c = search needs
 
 define-requires : tie.Need-define-requires
 define-requires c κs = let a = c .before .before .before .before .before .before .before .before .args in let q = c .before .before .before .before .before .before .before .before .pre in let r = enters-room (a .count) (a .table .now) (a .role) (a .v) (a .counter) (a .l) (q .1) (c .before .before .before .before .before .before .if1 .left) in (omega arith, q .0 .1, q .1 .number)
 
-add-result : tie.Need-add-result
-add-result c = search needs
-
 returns-2 : tie.Need-returns-2
 returns-2 c = let a = c .before .before .before .before .before .before .args in let q = c .before .before .before .before .before .before .pre in ((entered-none (namesIn (a .count) (a .table .now)) (a .role) (a .v) (a .counter) (a .l) (c .before .before .before .before .if1 .left) (sym (c .enum-told .given .1) ∙ c .before .before .name-value .ensures), q .0 .2), refl)
-
-same-length : tie.Need-same-length
-same-length c = search needs
 
 returns-3 : tie.Need-returns-3
 returns-3 c = let a = c .before .before .before .before .before .before .before .before .before .before .before .args in let q = c .before .before .before .before .before .before .before .before .before .before .before .pre in let n = c .before .before .before .before .before .before .before .before .before .if1 .left in let d = c .before .before .define .ensures in
@@ -52,14 +31,14 @@ pub enter-spec : {M : Type 1} → statement M
 enter-spec =
     tie.close
     (tie.spec
-    returns
-    name-length-requires
-    cast-length
+    (λ c. let q = c .before .before .pre in ((rw (eq-eqb _ _ (c .if1 .taken)), q .0 .2), refl))
+    (λ c κs. search needs)
+    (λ c. search needs)
     name-value-requires
-    enum-told
-    enum-known-value
+    (λ c. search needs)
+    (λ c. search needs)
     define-requires
-    add-result
+    (λ c. search needs)
     returns-2
-    same-length
+    (λ c. search needs)
     returns-3)

@@ -14,15 +14,6 @@ use borrow.Author.Needs.{needs}
 use Rattle.defining.proofs.name_length.Statement.{statement}
 use Rattle.defining.proofs.name_length.Tie as tie
 
-enum-told : tie.Need-enum-told
-enum-told c = search needs
-
-field-length-requires : tie.Need-field-length-requires
-field-length-requires c κs = search needs
-
-returns : tie.Need-returns
-returns c = rw (c .before .enum-told .given .1) (c .field-length .ensures)
-
 others : (r : Role) (op : Operation) (x : Shape) → OneOf (0 ∷ 1 ∷ 2 ∷ 3 ∷ []) (tagOf the-type r) → _≡_ {A = ℕ} 1 (nameLengthBy r op x)
 others Starts op x k = refl
 others Equates op x k = refl
@@ -30,8 +21,11 @@ others SetsCounter op x k = refl
 others Ends op x k = refl
 others Advances op x k = absurd (miss (0 ∷ 1 ∷ 2 ∷ 3 ∷ []) 4 tt k)
 
-returns-2 : tie.Need-returns-2
-returns-2 c = others (c .before .args .role) (c .before .args .op) (c .before .args .x) (c .match .keys2)
-
 pub name-length-spec : {M : Type 1} → statement M
-name-length-spec = tie.close (tie.spec enum-told field-length-requires returns returns-2)
+name-length-spec =
+    tie.close
+    (tie.spec
+    (λ c. search needs)
+    (λ c κs. search needs)
+    (λ c. rw (c .before .enum-told .given .1) (c .field-length .ensures))
+    (λ c. others (c .before .args .role) (c .before .args .op) (c .before .args .x) (c .match .keys2)))

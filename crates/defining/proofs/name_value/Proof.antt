@@ -11,20 +11,13 @@ use borrow.Author.Needs.{needs}
 use Rattle.defining.proofs.name_value.Statement.{statement}
 use Rattle.defining.proofs.name_value.Tie as tie
 
-enum-told : tie.Need-enum-told
-enum-told c = search needs
-
-place-by-requires : tie.Need-place-by-requires
-place-by-requires c κs = search needs
-
 cast-place : tie.Need-cast-place
 cast-place c = let a = c .before .before .args in omega (arith, c .place-by .ensures, amount-low (placeBy (a .role) (a .counter) (a .l .shape)) (sym (ap over (placed (a .role) (a .v) (a .counter) (a .l) (c .before .match .keys2))) ∙ c .before .before .pre))
-
-returns : tie.Need-returns
-returns c = search needs
 
 returns-2 : tie.Need-returns-2
 returns-2 c = let a = c .before .before .args in ap (λ n. Is (Relocatable (record { 0 = n }))) (c .place-by .ensures) ∙ sym (placed (a .role) (a .v) (a .counter) (a .l) (c .before .match .keys2))
 
 pub name-value-spec : {M : Type 1} → statement M
-name-value-spec = tie.close (tie.spec enum-told place-by-requires cast-place returns returns-2)
+name-value-spec =
+    tie.close
+    (tie.spec (λ c. search needs) (λ c κs. search needs) cast-place (λ c. search needs) returns-2)

@@ -8,24 +8,6 @@ use borrow.Author.Needs.{needs}
 use Rattle.making.proofs.make_card.Statement.{statement}
 use Rattle.making.proofs.make_card.Tie as tie
 
-read-line-requires : tie.Need-read-line-requires
-read-line-requires c κs = search needs
-
-enum-told : tie.Need-enum-told
-enum-told c = search needs
-
-make-none-requires : tie.Need-make-none-requires
-make-none-requires c κs = search needs
-
-enum-told-2 : tie.Need-enum-told-2
-enum-told-2 c = search needs
-
-make-none-requires-2 : tie.Need-make-none-requires-2
-make-none-requires-2 c κs = search needs
-
-enum-known-l : tie.Need-enum-known-l
-enum-known-l c = search needs
-
 make-line-requires : tie.Need-make-line-requires
 make-line-requires c κs = let p = c .before .before .before .before .before .before .pre in let e = sym (c .before .before .before .read-line .ensures) ∙ c .before .l .given .1 in
     let w = line-sound (c .before .l .given .0 .0) (sym (ap soundReading e) ∙ p .0 .0) .1 in
@@ -47,12 +29,12 @@ pub make-card-spec : {M : Type 1} → statement M
 make-card-spec =
     tie.close
     (tie.spec
-    read-line-requires
-    enum-told
-    make-none-requires
-    enum-told-2
-    make-none-requires-2
-    enum-known-l
+    (λ c κs. search needs)
+    (λ c. search needs)
+    (λ c κs. search needs)
+    (λ c. search needs)
+    (λ c κs. search needs)
+    (λ c. search needs)
     make-line-requires
     returns
     returns-2

@@ -14,20 +14,16 @@ use borrow.Author.Needs.{needs}
 use Rattle.making.proofs.text_by.Statement.{statement}
 use Rattle.making.proofs.text_by.Tie as tie
 
-enum-told : tie.Need-enum-told
-enum-told c = search needs
-
-returns : tie.Need-returns
-returns c = rw (c .enum-told .given .1)
-
 others : (k : DataType) (d : Data) (st : Statement) → OneOf (0 ∷ 1 ∷ 2 ∷ []) (tagOf the-type k) → Columns d ≡ textBy k d st
 others Characters d st k = refl
 others Hexadecimal d st k = refl
 others Decimal d st k = refl
 others Address d st k = absurd (miss (0 ∷ 1 ∷ 2 ∷ []) 3 tt k)
 
-returns-2 : tie.Need-returns-2
-returns-2 c = others (c .before .args .kind) _ (c .before .args .st) (c .match .keys2)
-
 pub text-by-spec : {M : Type 1} → statement M
-text-by-spec = tie.close (tie.spec enum-told returns returns-2)
+text-by-spec =
+    tie.close
+    (tie.spec
+    (λ c. search needs)
+    (λ c. rw (c .enum-told .given .1))
+    (λ c. others (c .before .args .kind) _ (c .before .args .st) (c .match .keys2)))

@@ -15,17 +15,8 @@ use borrow.Author.Needs.{needs}
 use Rattle.pass_one.proofs.early_in.Statement.{statement}
 use Rattle.pass_one.proofs.early_in.Tie as tie
 
-enum-known-reading : tie.Need-enum-known-reading
-enum-known-reading c = search needs
-
 early-line-requires : tie.Need-early-line-requires
 early-line-requires c κs = let p = c .before .before .before .before .before .pre in let w = line-within _ _ (p .0 ∙ c .before .reading .given .1) in ((w .operand, w .end), p .1)
-
-no-early-requires : tie.Need-no-early-requires
-no-early-requires c κs = search needs
-
-returns : tie.Need-returns
-returns c = rw (c .before .before .reading .given .1) (c .early-line .ensures)
 
 others : (x : Reading) (look : ℕ → Meaning) (counter : ℕ) (s : List ℕ) → OneOf (0 ∷ 1 ∷ []) (tagOf the-type x) → noEarly ≡ earlyIn look counter s x
 others Comment look counter s k = refl
@@ -37,4 +28,10 @@ returns-2 c = let a = c .before .before .before .before .args in c .no-early .en
 
 pub early-in-spec : {M : Type 1} → statement M
 early-in-spec =
-    tie.close (tie.spec enum-known-reading early-line-requires no-early-requires returns returns-2)
+    tie.close
+    (tie.spec
+    (λ c. search needs)
+    early-line-requires
+    (λ c κs. search needs)
+    (λ c. rw (c .before .before .reading .given .1) (c .early-line .ensures))
+    returns-2)

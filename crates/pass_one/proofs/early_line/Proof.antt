@@ -17,18 +17,6 @@ use borrow.Author.Needs.{needs}
 use Rattle.pass_one.proofs.early_line.Statement.{statement}
 use Rattle.pass_one.proofs.early_line.Tie as tie
 
-role-of-requires : tie.Need-role-of-requires
-role-of-requires c κs = search needs
-
-operands-at-requires : tie.Need-operands-at-requires
-operands-at-requires c κs = search needs
-
-early-of-requires : tie.Need-early-of-requires
-early-of-requires c κs = search needs
-
-no-early-requires : tie.Need-no-early-requires
-no-early-requires c κs = search needs
-
 looked : (r : Role) (op : Operation) (x : Operands) → OneOf (1 ∷ 2 ∷ []) (tagOf the-type r) → earlyOf op x ≡ earlyFrom r op x
 looked Starts op x k = absurd (miss (1 ∷ 2 ∷ []) 0 tt k)
 looked Equates op x k = refl
@@ -53,9 +41,9 @@ pub early-line-spec : {M : Type 1} → statement M
 early-line-spec =
     tie.close
     (tie.spec
-    role-of-requires
-    operands-at-requires
-    early-of-requires
-    no-early-requires
+    (λ c κs. search needs)
+    (λ c κs. search needs)
+    (λ c κs. search needs)
+    (λ c κs. search needs)
     returns
     returns-2)

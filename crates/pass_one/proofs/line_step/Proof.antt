@@ -7,20 +7,11 @@ use borrow.Author.Needs.{needs}
 use Rattle.pass_one.proofs.line_step.Statement.{statement}
 use Rattle.pass_one.proofs.line_step.Tie as tie
 
-role-of-requires : tie.Need-role-of-requires
-role-of-requires c κs = search needs
-
 counter-by-requires : tie.Need-counter-by-requires
 counter-by-requires c κs = let a = c .before .before .args in let q = c .before .before .pre .1 in omega (arith, line-enters (standsFor (a .p) (a .table .now)) (a .l) (a .e) (q .0) (q .1) .1)
 
-phase-after-requires : tie.Need-phase-after-requires
-phase-after-requires c κs = search needs
-
 enter-requires : tie.Need-enter-requires
 enter-requires c κs = let a = c .before .before .before .before .before .args in let q = c .before .before .before .before .before .pre in ((q .0 .0, q .0 .1 .ordered, q .0 .1 .few), rw (c .before .before .before .role-of .ensures) (line-enters (standsFor (a .p) (a .table .now)) (a .l) (a .e) (q .1 .0) (q .1 .1) .0))
-
-same-length : tie.Need-same-length
-same-length c = search needs
 
 returns : tie.Need-returns
 returns c =
@@ -34,9 +25,9 @@ pub line-step-spec : {M : Type 1} → statement M
 line-step-spec =
     tie.close
     (tie.spec
-    role-of-requires
+    (λ c κs. search needs)
     counter-by-requires
-    phase-after-requires
+    (λ c κs. search needs)
     enter-requires
-    same-length
+    (λ c. search needs)
     returns)

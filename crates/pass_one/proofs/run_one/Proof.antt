@@ -30,15 +30,6 @@ Inv-loop width source table₀ columns p₀ left₀ at₀ k₀ table p left at k
 abbrev μ-loop : tie.MeasureT-loop
 μ-loop width source table₀ columns p₀ left₀ at₀ k₀ table p left at k = left
 
-cast-columns-of : tie.Need-cast-columns-of Inv-loop μ-loop
-cast-columns-of c = omega (arith, source-whole _ _ (c .before .before .pre .0) .most)
-
-columns-of-requires : tie.Need-columns-of-requires Inv-loop μ-loop
-columns-of-requires c κs = search needs
-
-div-left : tie.Need-div-left Inv-loop μ-loop
-div-left c = omega (arith, source-whole _ _ (c .before .before .before .pre .0) .some)
-
 loop-holds : tie.Need-loop-holds Inv-loop μ-loop
 loop-holds c = let a = c .before .before .before .args in let w = source-whole _ _ (c .before .before .before .pre .0) .cards in
     record {
@@ -57,17 +48,11 @@ card-at-requires c κs = let w = card-inside (c .before .before .before .before 
 card : (c : tie.After-card-at Inv-loop μ-loop) → c .card-at .result .now ≡ part (c .before .before .before .before .before .before .args .source .now) (c .before .before .loop .at) (columnsOf (c .before .before .before .before .before .before .args .width))
 card c = c .card-at .ensures ∙ ap (part (c .before .before .before .before .before .before .args .source .now) (c .before .before .loop .at)) (c .before .before .before .columns-of .ensures .0)
 
-read-line-requires : tie.Need-read-line-requires Inv-loop μ-loop
-read-line-requires c κs = search needs
-
 early-in-requires : tie.Need-early-in-requires Inv-loop μ-loop
 early-in-requires c κs = let i = c .before .before .before .before .loop .inv in let same = i .same in let few = i .fit .few in (sym (c .before .read-line .ensures), (omega arith, i .fit .ordered))
 
 one-no-requires : tie.Need-one-no-requires Inv-loop μ-loop
 one-no-requires c κs = let i = c .before .before .before .before .before .before .loop .inv in let same = i .same in ((omega arith, i .fit), (sym (c .before .before .before .read-line .ensures), c .before .early-in .ensures))
-
-same-length : tie.Need-same-length Inv-loop μ-loop
-same-length c = c .before .before .before .before .before .before .before .before .loop .inv .same
 
 returns : tie.Need-returns Inv-loop μ-loop
 returns c = let l = c .before .before .before .before .before .before .before .before .loop in let a = c .before .before .before .before .before .before .before .before .before .before .before .before .args in let j = c .before .one-no .ensures in (ap (λ n. stopped n (l .k)) j ∙ sym (l .inv .pass ∙ turn-stop (l .k) (a .width) (l .left) (l .at) (standsFor (l .p) (l .table)) (a .source .now) _ (c .before .before .before .before .before .before .before .loop-test .taken) (card (c .before .before .before .before .before .before)) (λ z. c .if1 .taken (j ∙ z))), l .inv .rest)
@@ -75,17 +60,11 @@ returns c = let l = c .before .before .before .before .before .before .before .b
 step-one-requires : tie.Need-step-one-requires Inv-loop μ-loop
 step-one-requires c κs = let i = c .before .before .before .before .before .before .before .before .before .loop .inv in let same = i .same in ((omega arith, i .fit), (read-zero (standsFor (c .before .before .before .before .before .before .before .before .before .loop .p) (c .before .before .before .before .before .before .before .before .before .loop .table)) _ _ _ (sym (c .before .before .before .before .before .before .read-line .ensures)) (c .before .before .before .before .early-in .ensures) (sym (c .before .before .one-no .ensures) ∙ c .before .if1 .left), name-fits _ _ (sym (c .before .before .before .before .before .before .read-line .ensures))))
 
-sub-left : tie.Need-sub-left Inv-loop μ-loop
-sub-left c = omega arith
-
 add-at : tie.Need-add-at Inv-loop μ-loop
 add-at c = omega (arith, card-inside (c .before .before .before .before .before .before .before .before .before .before .before .before .before .before .before .before .args .width) (length (c .before .before .before .before .before .before .before .before .before .before .before .before .before .before .before .before .args .source .now)) (c .before .before .before .before .before .before .before .before .before .before .before .before .loop .at) (c .before .before .before .before .before .before .before .before .before .before .before .before .loop .left) (c .before .before .before .before .before .before .before .before .before .before .before .before .before .before .before .before .pre .0) (c .before .before .before .before .before .before .before .before .before .before .before .before .loop .inv .whole) (c .before .before .before .before .before .before .before .before .before .before .before .loop-test .taken) .1)
 
 add-k : tie.Need-add-k Inv-loop μ-loop
 add-k c = let l = c .before .before .before .before .before .before .before .before .before .before .before .before .loop in let a = c .before .before .before .before .before .before .before .before .before .before .before .before .before .before .before .before .args in omega (arith, source-whole (a .width) (length (a .source .now)) (c .before .before .before .before .before .before .before .before .before .before .before .before .before .before .before .before .pre .0) .few, l .inv .cards)
-
-loop-less : tie.Need-loop-less Inv-loop μ-loop
-loop-less c = omega arith
 
 loop-again : tie.Need-loop-again Inv-loop μ-loop
 loop-again c = let l = c .before .before .before .before .before .before .before .before .before .before .before .before .loop in let a = c .before .before .before .before .before .before .before .before .before .before .before .before .before .before .before .before .args in let i = l .inv in let s = c .before .before .step-one in let zero = sym (c .before .before .before .before .before .one-no .ensures) ∙ c .before .before .before .before .if1 .left in let some = c .before .before .before .before .before .before .before .before .before .before .before .loop-test .taken in
@@ -100,12 +79,6 @@ loop-again c = let l = c .before .before .before .before .before .before .before
           ∙ ap (λ st. passOne (l .k + 1) st (cardsFrom (l .left - 1) (a .width) (a .source .now) (l .at + a .width))) (sym is);
     }
 
-enum-told : tie.Need-enum-told Inv-loop μ-loop
-enum-told c = search needs
-
-same-length-2 : tie.Need-same-length-2 Inv-loop μ-loop
-same-length-2 c = c .before .before .before .loop .inv .same
-
 returns-2 : tie.Need-returns-2 Inv-loop μ-loop
 returns-2 c = let l = c .before .before .before .loop in let a = c .before .before .before .before .before .before .before .args in (sym (l .inv .pass ∙ turn-end (l .k) (a .width) (l .left) (l .at) (standsFor (l .p) (l .table)) (a .source .now) _ (c .before .before .loop-test .left) (c .enum-told .given .1)), l .inv .rest)
 
@@ -114,9 +87,6 @@ others : (f : Phase) (st : State) → OneOf (0 ∷ 1 ∷ []) (tagOf the-type f) 
 others Before st k = refl
 others Within st k = refl
 others Ended st k = absurd (miss (0 ∷ 1 ∷ []) 2 tt k)
-
-same-length-3 : tie.Need-same-length-3 Inv-loop μ-loop
-same-length-3 c = c .before .before .loop .inv .same
 
 returns-3 : tie.Need-returns-3 Inv-loop μ-loop
 returns-3 c = let l = c .before .before .loop in let a = c .before .before .before .before .before .before .args in (sym (l .inv .pass ∙ turn-end (l .k) (a .width) (l .left) (l .at) (standsFor (l .p) (l .table)) (a .source .now) _ (c .before .loop-test .left) refl ∙ others (l .p .phase) (standsFor (l .p) (l .table)) (c .match .keys2)), l .inv .rest)
@@ -127,24 +97,24 @@ run-one-spec =
     (tie.spec
     Inv-loop
     μ-loop
-    cast-columns-of
-    columns-of-requires
-    div-left
+    (λ c. omega (arith, source-whole _ _ (c .before .before .pre .0) .most))
+    (λ c κs. search needs)
+    (λ c. omega (arith, source-whole _ _ (c .before .before .before .pre .0) .some))
     loop-holds
     card-at-requires
-    read-line-requires
+    (λ c κs. search needs)
     early-in-requires
     one-no-requires
-    same-length
+    (λ c. c .before .before .before .before .before .before .before .before .loop .inv .same)
     returns
     step-one-requires
-    sub-left
+    (λ c. omega arith)
     add-at
     add-k
-    loop-less
+    (λ c. omega arith)
     loop-again
-    enum-told
-    same-length-2
+    (λ c. search needs)
+    (λ c. c .before .before .before .loop .inv .same)
     returns-2
-    same-length-3
+    (λ c. c .before .before .loop .inv .same)
     returns-3)

@@ -6,26 +6,8 @@ use borrow.Author.Needs.{needs}
 use Rattle.pass_one.proofs.step_one.Statement.{statement}
 use Rattle.pass_one.proofs.step_one.Tie as tie
 
-enum-told : tie.Need-enum-told
-enum-told c = search needs
-
-enum-told-2 : tie.Need-enum-told-2
-enum-told-2 c = search needs
-
-enum-known-reading : tie.Need-enum-known-reading
-enum-known-reading c = search needs
-
 line-step-requires : tie.Need-line-step-requires
 line-step-requires c κs = let a = c .before .before .before .before .before .args in let q = c .before .before .before .before .before .pre in let e = c .before .before .reading .given .1 in (q .0, (subst (λ x. readingBy (standsFor (a .p) (a .table .now)) x (a .e) ≡ 0) e (q .1 .0), subst nameFits e (q .1 .1)))
-
-returns : tie.Need-returns
-returns c = let q = c .before .before .before .pre in ((rw (c .enum-told .given .1), q .0 .1 .few), refl)
-
-returns-2 : tie.Need-returns-2
-returns-2 c = let q = c .before .before .before .pre in ((rw (c .enum-told2 .given .1), q .0 .1 .few), refl)
-
-same-length : tie.Need-same-length
-same-length c = search needs
 
 returns-3 : tie.Need-returns-3
 returns-3 c = let e = c .before .before .line-step .ensures in ((rw (c .before .before .before .before .before .reading .given .1) (e .0 .0), e .0 .1), e .1)
@@ -34,11 +16,11 @@ pub step-one-spec : {M : Type 1} → statement M
 step-one-spec =
     tie.close
     (tie.spec
-    enum-told
-    enum-told-2
-    enum-known-reading
+    (λ c. search needs)
+    (λ c. search needs)
+    (λ c. search needs)
     line-step-requires
-    returns
-    returns-2
-    same-length
+    (λ c. let q = c .before .before .before .pre in ((rw (c .enum-told .given .1), q .0 .1 .few), refl))
+    (λ c. let q = c .before .before .before .pre in ((rw (c .enum-told2 .given .1), q .0 .1 .few), refl))
+    (λ c. search needs)
     returns-3)

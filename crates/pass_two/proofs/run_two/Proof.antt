@@ -1,7 +1,5 @@
 -- `run_two` meets its contract: its invariant is `Walked`.
-use mathlib.Core.List.{List}
-use mathlib.Core.Bool.{Bool, true, false}
-use Prim.Native.Nat.{ℕ, _+_, _≤_}
+use Prim.Native.Nat.{_+_}
 use Rattle.book.specs.Writing.{recordsBytes}
 use Rattle.cards.specs.Source.{columnsOf}
 use Rattle.passes.specs.Two.{outset, checkTwo, cardRecords, entryFrom}
@@ -32,23 +30,12 @@ Inv-loop width source table count writes out₀ columns c₀ entry₀ left₀ at
 abbrev μ-loop : tie.MeasureT-loop
 μ-loop width source table count writes out₀ columns c₀ entry₀ left₀ at₀ k₀ to₀ out c entry left at k to = left
 
--- src/lib.rt:62:30
 cast-columns-of : tie.Need-cast-columns-of Inv-loop μ-loop
 cast-columns-of c = let w = source-whole (c .before .before .before .args .width) (length (c .before .before .before .args .source .now)) (c .before .before .before .pre .0 .0) in let m = w .most in omega arith
 
--- src/lib.rt:62:9
-columns-of-requires : tie.Need-columns-of-requires Inv-loop μ-loop
-columns-of-requires c κs = search needs
-
--- src/lib.rt:63:9
-first-course-requires : tie.Need-first-course-requires Inv-loop μ-loop
-first-course-requires c κs = search needs
-
--- src/lib.rt:65:20
 div-left : tie.Need-div-left Inv-loop μ-loop
 div-left c = let w = source-whole (c .before .before .before .before .before .args .width) (length (c .before .before .before .before .before .args .source .now)) (c .before .before .before .before .before .pre .0 .0) in let m = w .some in omega arith
 
--- src/lib.rt:69:5
 loop-holds : tie.Need-loop-holds Inv-loop μ-loop
 loop-holds c = let a = c .before .before .before .before .before .args in let look = find (namesIn (a .count) (a .table .now)) in let w = source-whole (c .before .before .before .before .before .args .width) (length (c .before .before .before .before .before .args .source .now)) (c .before .before .before .before .before .pre .0 .0) in
     let all = cards-all (a .width) (a .source .now) in let n = w .cards in let few = w .few in
@@ -65,7 +52,6 @@ loop-holds c = let a = c .before .before .before .before .before .args in let lo
       found = ap (entryFrom look outset) all;
     })
 
--- src/lib.rt:70:13
 card-at-requires : tie.Need-card-at-requires Inv-loop μ-loop
 card-at-requires c κs = let w = card-inside (c .before .before .before .before .before .before .before .args .width) (length (c .before .before .before .before .before .before .before .args .source .now)) (c .before .loop .at) (c .before .loop .left) (c .before .before .before .before .before .before .before .pre .0 .0) (c .before .loop .inv .whole) (c .loop-test .taken) in let m = w .0 in omega arith
 
@@ -73,15 +59,9 @@ card-at-requires c κs = let w = card-inside (c .before .before .before .before 
 card : (c : tie.After-card-at Inv-loop μ-loop) → c .card-at .result .now ≡ part (c .before .before .before .before .before .before .before .before .args .source .now) (c .before .before .loop .at) (columnsOf (c .before .before .before .before .before .before .before .before .args .width))
 card c = c .card-at .ensures ∙ ap (part (c .before .before .before .before .before .before .before .before .args .source .now) (c .before .before .loop .at)) (c .before .before .before .before .columns-of .ensures .0)
 
--- src/lib.rt:71:13
 make-card-requires : tie.Need-make-card-requires Inv-loop μ-loop
 make-card-requires c κs = let low = c .before .before .loop .inv .low in ((walk-sound (c .before .before .before .before .before .before .before .before .args .width) (c .before .before .before .before .before .before .before .before .args .source .now) _ (c .before .before .before .before .before .before .before .before .args .writes) (c .before .before .before .before .before .before .before .before .args .out .now) _ _ _ (c .before .before .loop .left) (c .before .before .loop .at) (c .before .before .loop .k) (c .before .before .loop .to) (c .before .before .loop .inv) _ (card c) (c .before .loop-test .taken), omega arith), c .before .before .before .before .before .before .before .before .pre .1 .0)
 
--- src/lib.rt:75:13
-same-length : tie.Need-same-length Inv-loop μ-loop
-same-length c = c .before .before .before .before .loop .inv .same
-
--- src/lib.rt:75:13
 returns : tie.Need-returns Inv-loop μ-loop
 unfolding checkedIn bytesIn
 returns c = let a = c .before .before .before .before .before .before .before .before .before .before .args in let look = find (namesIn (a .count) (a .table .now)) in
@@ -90,58 +70,30 @@ returns c = let a = c .before .before .before .before .before .before .before .b
       walk-nothing (c .before .before .before .before .before .before .before .before .before .before .args .width) (c .before .before .before .before .before .before .before .before .before .before .args .source .now) _ (c .before .before .before .before .before .before .before .before .before .before .args .writes) (c .before .before .before .before .before .before .before .before .before .before .args .out .now) _ _ _ (c .before .before .before .before .loop .left) (c .before .before .before .before .loop .at) (c .before .before .before .before .loop .k) (c .before .before .before .before .loop .to) (c .before .before .before .before .loop .inv) (walk-stop (c .before .before .before .before .before .before .before .before .before .before .args .width) (c .before .before .before .before .before .before .before .before .before .before .args .source .now) _ (c .before .before .before .before .before .before .before .before .before .before .args .writes) (c .before .before .before .before .before .before .before .before .before .before .args .out .now) _ _ _ (c .before .before .before .before .loop .left) (c .before .before .before .before .loop .at) (c .before .before .before .before .loop .k) (c .before .before .before .before .loop .to) (c .before .before .before .before .loop .inv) _ _ stop (c .before .before .before .before .before .before .before .before .before .before .pre .1 .1)),
     )
 
--- src/lib.rt:77:9
 put-made-requires : tie.Need-put-made-requires Inv-loop μ-loop
 unfolding checkedIn bytesIn
 put-made-requires c κs = let near = c .before .before .before .before .before .loop .inv .short in ((walk-fits (c .before .before .before .before .before .before .before .before .before .before .before .args .width) (c .before .before .before .before .before .before .before .before .before .before .before .args .source .now) _ (c .before .before .before .before .before .before .before .before .before .before .before .args .writes) (c .before .before .before .before .before .before .before .before .before .before .before .args .out .now) _ _ _ (c .before .before .before .before .before .loop .left) (c .before .before .before .before .before .loop .at) (c .before .before .before .before .before .loop .k) (c .before .before .before .before .before .loop .to) (c .before .before .before .before .before .loop .inv) _ (card (c .before .before .before)) (c .before .before .before .before .loop-test .taken) _ (c .before .before .make-card .ensures), omega arith), (λ on. walk-room (c .before .before .before .before .before .before .before .before .before .before .before .args .width) (c .before .before .before .before .before .before .before .before .before .before .before .args .source .now) _ (c .before .before .before .before .before .before .before .before .before .before .before .args .writes) (c .before .before .before .before .before .before .before .before .before .before .before .args .out .now) _ _ _ (c .before .before .before .before .before .loop .left) (c .before .before .before .before .before .loop .at) (c .before .before .before .before .before .loop .k) (c .before .before .before .before .before .loop .to) (c .before .before .before .before .before .loop .inv) _ (card (c .before .before .before)) (c .before .before .before .before .loop-test .taken) _ (c .before .before .make-card .ensures) (c .before .before .before .before .before .before .before .before .before .before .before .pre .1 .1 on .1)))
 
--- src/lib.rt:78:9
-first-of-requires : tie.Need-first-of-requires Inv-loop μ-loop
-first-of-requires c κs = search needs
-
--- src/lib.rt:80:9
-sub-left : tie.Need-sub-left Inv-loop μ-loop
-sub-left c = omega arith
-
--- src/lib.rt:81:9
 add-at : tie.Need-add-at Inv-loop μ-loop
 add-at c = let w = card-inside (c .before .before .before .before .before .before .before .before .before .before .before .before .before .before .before .before .args .width) (length (c .before .before .before .before .before .before .before .before .before .before .before .before .before .before .before .before .args .source .now)) (c .before .before .before .before .before .before .before .before .before .before .loop .at) (c .before .before .before .before .before .before .before .before .before .before .loop .left) (c .before .before .before .before .before .before .before .before .before .before .before .before .before .before .before .before .pre .0 .0) (c .before .before .before .before .before .before .before .before .before .before .loop .inv .whole) (c .before .before .before .before .before .before .before .before .before .loop-test .taken) in let m = w .1 in omega (arith, c .before .before .before .before .before .before .before .before .before .before .before .before .before .before .before .before .good)
 
--- src/lib.rt:82:9
 add-k : tie.Need-add-k Inv-loop μ-loop
 add-k c = let few = c .before .before .before .before .before .before .before .before .before .before .loop .inv .few in omega arith
 
--- src/lib.rt:69:5
-loop-less : tie.Need-loop-less Inv-loop μ-loop
-loop-less c = omega arith
-
--- src/lib.rt:69:5
 loop-again : tie.Need-loop-again Inv-loop μ-loop
 loop-again c = walk-on (c .before .before .before .before .before .before .before .before .before .before .before .before .before .before .before .before .args .width) (c .before .before .before .before .before .before .before .before .before .before .before .before .before .before .before .before .args .source .now) _ (c .before .before .before .before .before .before .before .before .before .before .before .before .before .before .before .before .args .writes) (c .before .before .before .before .before .before .before .before .before .before .before .before .before .before .before .before .args .out .now) _ _ _ (c .before .before .before .before .before .before .before .before .before .before .loop .left) (c .before .before .before .before .before .before .before .before .before .before .loop .at) (c .before .before .before .before .before .before .before .before .before .before .loop .k) (c .before .before .before .before .before .before .before .before .before .before .loop .to) (c .before .before .before .before .before .before .before .before .before .before .loop .inv) _ (card (c .before .before .before .before .before .before .before .before)) (c .before .before .before .before .before .before .before .before .before .loop-test .taken) _ (c .before .before .before .before .before .before .before .make-card .ensures) _ _ _ (c .before .before .before .before .before .before .before .before .before .before .before .before .before .before .before .before .pre .0 .0) (c .before .before .before .before .before .before .if1 .left) (c .before .before .before .before .put-made .ensures .1) (c .before .before .before .before .put-made .kept .1 .1 .1 .1 .1 .0) (c .before .before .before .before .put-made .ensures .0) (c .before .first-of .ensures)
 
--- src/lib.rt:85:24
-entry-in-requires : tie.Need-entry-in-requires Inv-loop μ-loop
-entry-in-requires c κs = search needs
-
--- src/lib.rt:85:9
 put-header-requires : tie.Need-put-header-requires Inv-loop μ-loop
 unfolding checkedIn bytesIn
 put-header-requires c κs = walk-long (c .before .before .before .before .before .before .before .before .before .before .args .width) (c .before .before .before .before .before .before .before .before .before .before .args .source .now) _ (c .before .before .before .before .before .before .before .before .before .before .args .writes) (c .before .before .before .before .before .before .before .before .before .before .args .out .now) _ _ _ (c .before .before .before .before .loop .left) (c .before .before .before .before .loop .at) (c .before .before .before .before .loop .k) (c .before .before .before .before .loop .to) (c .before .before .before .before .loop .inv) (c .before .before .before .loop-test .left) (c .before .before .before .before .before .before .before .before .before .before .pre .1 .1 (c .before .before .if2 .taken) .1)
 
--- src/lib.rt:48:1
 same-length-2 : tie.Need-same-length-2 Inv-loop μ-loop
 same-length-2 c = c .before .before .put-header .kept .1 .1 .0 ∙ c .before .before .before .before .before .before .before .loop .inv .same
 
--- src/lib.rt:48:1
 returns-2 : tie.Need-returns-2 Inv-loop μ-loop
 unfolding checkedIn bytesIn
 returns-2 c = let a = c .before .before .before .before .before .before .before .before .before .before .before .before .before .args in let look = find (namesIn (a .count) (a .table .now)) in let short = c .before .before .before .before .before .before .before .loop .inv .short in ((sym (ap (λ x. judgedAs x (length (bytesIn (a .width) (a .source .now) (a .table .now) (a .count)))) (walk-clean (c .before .before .before .before .before .before .before .before .before .before .before .before .before .args .width) (c .before .before .before .before .before .before .before .before .before .before .before .before .before .args .source .now) _ (c .before .before .before .before .before .before .before .before .before .before .before .before .before .args .writes) (c .before .before .before .before .before .before .before .before .before .before .before .before .before .args .out .now) _ _ _ (c .before .before .before .before .before .before .before .loop .left) (c .before .before .before .before .before .before .before .loop .at) (c .before .before .before .before .before .before .before .loop .k) (c .before .before .before .before .before .before .before .loop .to) (c .before .before .before .before .before .before .before .loop .inv) (c .before .before .before .before .before .before .loop-test .left)) ∙ ap Book (walk-size (c .before .before .before .before .before .before .before .before .before .before .before .before .before .args .width) (c .before .before .before .before .before .before .before .before .before .before .before .before .before .args .source .now) _ (c .before .before .before .before .before .before .before .before .before .before .before .before .before .args .writes) (c .before .before .before .before .before .before .before .before .before .before .before .before .before .args .out .now) _ _ _ (c .before .before .before .before .before .before .before .loop .left) (c .before .before .before .before .before .before .before .loop .at) (c .before .before .before .before .before .before .before .loop .k) (c .before .before .before .before .before .before .before .loop .to) (c .before .before .before .before .before .before .before .loop .inv) (c .before .before .before .before .before .before .loop-test .left))), omega arith), walk-header (c .before .before .before .before .before .before .before .before .before .before .before .before .before .args .width) (c .before .before .before .before .before .before .before .before .before .before .before .before .before .args .source .now) _ (c .before .before .before .before .before .before .before .before .before .before .before .before .before .args .writes) (c .before .before .before .before .before .before .before .before .before .before .before .before .before .args .out .now) _ _ _ (c .before .before .before .before .before .before .before .loop .left) (c .before .before .before .before .before .before .before .loop .at) (c .before .before .before .before .before .before .before .loop .k) (c .before .before .before .before .before .before .before .loop .to) (c .before .before .before .before .before .before .before .loop .inv) (c .before .before .before .before .before .before .loop-test .left) _ _ (c .before .before .before .before .before .if2 .taken) (c .before .before .before .before .entry-in .ensures) (c .before .before .put-header .ensures))
 
--- src/lib.rt:48:1
-same-length-3 : tie.Need-same-length-3 Inv-loop μ-loop
-same-length-3 c = c .before .before .loop .inv .same
-
--- src/lib.rt:48:1
 returns-3 : tie.Need-returns-3 Inv-loop μ-loop
 unfolding checkedIn bytesIn
 returns-3 c = let a = c .before .before .before .before .before .before .before .before .args in let look = find (namesIn (a .count) (a .table .now)) in let short = c .before .before .loop .inv .short in ((sym (ap (λ x. judgedAs x (length (bytesIn (a .width) (a .source .now) (a .table .now) (a .count)))) (walk-clean (c .before .before .before .before .before .before .before .before .args .width) (c .before .before .before .before .before .before .before .before .args .source .now) _ (c .before .before .before .before .before .before .before .before .args .writes) (c .before .before .before .before .before .before .before .before .args .out .now) _ _ _ (c .before .before .loop .left) (c .before .before .loop .at) (c .before .before .loop .k) (c .before .before .loop .to) (c .before .before .loop .inv) (c .before .loop-test .left)) ∙ ap Book (walk-size (c .before .before .before .before .before .before .before .before .args .width) (c .before .before .before .before .before .before .before .before .args .source .now) _ (c .before .before .before .before .before .before .before .before .args .writes) (c .before .before .before .before .before .before .before .before .args .out .now) _ _ _ (c .before .before .loop .left) (c .before .before .loop .at) (c .before .before .loop .k) (c .before .before .loop .to) (c .before .before .loop .inv) (c .before .loop-test .left))), omega arith), walk-nothing (c .before .before .before .before .before .before .before .before .args .width) (c .before .before .before .before .before .before .before .before .args .source .now) _ (c .before .before .before .before .before .before .before .before .args .writes) (c .before .before .before .before .before .before .before .before .args .out .now) _ _ _ (c .before .before .loop .left) (c .before .before .loop .at) (c .before .before .loop .k) (c .before .before .loop .to) (c .before .before .loop .inv) (c .if2 .left))
@@ -153,24 +105,24 @@ run-two-spec =
     Inv-loop
     μ-loop
     cast-columns-of
-    columns-of-requires
-    first-course-requires
+    (λ c κs. search needs)
+    (λ c κs. search needs)
     div-left
     loop-holds
     card-at-requires
     make-card-requires
-    same-length
+    (λ c. c .before .before .before .before .loop .inv .same)
     returns
     put-made-requires
-    first-of-requires
-    sub-left
+    (λ c κs. search needs)
+    (λ c. omega arith)
     add-at
     add-k
-    loop-less
+    (λ c. omega arith)
     loop-again
-    entry-in-requires
+    (λ c κs. search needs)
     put-header-requires
     same-length-2
     returns-2
-    same-length-3
+    (λ c. c .before .before .loop .inv .same)
     returns-3)

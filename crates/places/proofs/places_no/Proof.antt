@@ -13,65 +13,17 @@ use borrow.Author.Needs.{needs}
 use Rattle.places.proofs.places_no.Statement.{statement}
 use Rattle.places.proofs.places_no.Tie as tie
 
-enum-known-x : tie.Need-enum-known-x
-enum-known-x c = search needs
-
-operand-of-requires : tie.Need-operand-of-requires
-operand-of-requires c κs = search needs
-
-placed-no-requires : tie.Need-placed-no-requires
-placed-no-requires c κs = search needs
-
-operand-of-requires-2 : tie.Need-operand-of-requires-2
-operand-of-requires-2 c κs = search needs
-
-placed-no-requires-2 : tie.Need-placed-no-requires-2
-placed-no-requires-2 c κs = search needs
-
-lower-of-requires : tie.Need-lower-of-requires
-lower-of-requires c κs = search needs
-
-enum-known-x-2 : tie.Need-enum-known-x-2
-enum-known-x-2 c = search needs
-
-operand-of-requires-3 : tie.Need-operand-of-requires-3
-operand-of-requires-3 c κs = search needs
-
-placed-no-requires-3 : tie.Need-placed-no-requires-3
-placed-no-requires-3 c κs = search needs
-
-enum-known-x-3 : tie.Need-enum-known-x-3
-enum-known-x-3 c = search needs
-
-operand-of-requires-4 : tie.Need-operand-of-requires-4
-operand-of-requires-4 c κs = search needs
-
-placed-no-requires-4 : tie.Need-placed-no-requires-4
-placed-no-requires-4 c κs = search needs
-
-enum-known-x-4 : tie.Need-enum-known-x-4
-enum-known-x-4 c = search needs
-
-use-no-requires : tie.Need-use-no-requires
-use-no-requires c κs = search needs
-
-enum-known-x-5 : tie.Need-enum-known-x-5
-enum-known-x-5 c = search needs
-
-use-no-requires-2 : tie.Need-use-no-requires-2
-use-no-requires-2 c κs = search needs
-
 returns : tie.Need-returns
 unfolding placesNo
-returns c = rw (c .lower-of .ensures, c .before .placed-no2 .ensures, c .before .before .operand-of2 .ensures, c .before .before .before .placed-no .ensures, c .before .before .before .before .operand-of .ensures, c .before .before .before .before .before .before .x .given .1)
+returns c = rw (c .two-places-no .ensures, c .before .before .x .given .1)
 
 returns-2 : tie.Need-returns-2
 unfolding placesNo
-returns-2 c = rw (c .placed-no3 .ensures, c .before .operand-of3 .ensures, c .before .before .before .x2 .given .1)
+returns-2 c = rw (c .address-place-no .ensures, c .before .before .x2 .given .1)
 
 returns-3 : tie.Need-returns-3
 unfolding placesNo
-returns-3 c = rw (c .placed-no4 .ensures, c .before .operand-of4 .ensures, c .before .before .before .x3 .given .1)
+returns-3 c = rw (c .address-place-no2 .ensures, c .before .before .x3 .given .1)
 
 returns-4 : tie.Need-returns-4
 unfolding placesNo
@@ -98,22 +50,16 @@ pub places-no-spec : {M : Type 1} → statement M
 places-no-spec =
     tie.close
     (tie.spec
-    enum-known-x
-    operand-of-requires
-    placed-no-requires
-    operand-of-requires-2
-    placed-no-requires-2
-    lower-of-requires
-    enum-known-x-2
-    operand-of-requires-3
-    placed-no-requires-3
-    enum-known-x-3
-    operand-of-requires-4
-    placed-no-requires-4
-    enum-known-x-4
-    use-no-requires
-    enum-known-x-5
-    use-no-requires-2
+    (λ c. search needs)
+    (λ c κs. search needs)
+    (λ c. search needs)
+    (λ c κs. search needs)
+    (λ c. search needs)
+    (λ c κs. search needs)
+    (λ c. search needs)
+    (λ c κs. search needs)
+    (λ c. search needs)
+    (λ c κs. search needs)
     returns
     returns-2
     returns-3

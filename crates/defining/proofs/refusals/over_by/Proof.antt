@@ -6,21 +6,6 @@ use borrow.Author.Needs.{needs}
 use Rattle.defining.proofs.refusals.over_by.Statement.{statement}
 use Rattle.defining.proofs.refusals.over_by.Tie as tie
 
-enum-told : tie.Need-enum-told
-enum-told c = search needs
-
-value-over-requires : tie.Need-value-over-requires
-value-over-requires c κs = search needs
-
-place-by-requires : tie.Need-place-by-requires
-place-by-requires c κs = search needs
-
-amount-over-requires : tie.Need-amount-over-requires
-amount-over-requires c κs = search needs
-
-returns : tie.Need-returns
-returns c = search needs
-
 returns-2 : tie.Need-returns-2
 returns-2 c = let a = c .before .before .before .args in c .amount-over .ensures ∙ ap amountOver (c .before .place-by .ensures) ∙ sym (ap over (placed (a .r) (a .v) (a .counter) (a .l) (c .before .before .match .keys2)))
 
@@ -28,9 +13,9 @@ pub over-by-spec : {M : Type 1} → statement M
 over-by-spec =
     tie.close
     (tie.spec
-    enum-told
-    value-over-requires
-    place-by-requires
-    amount-over-requires
-    returns
+    (λ c. search needs)
+    (λ c κs. search needs)
+    (λ c κs. search needs)
+    (λ c κs. search needs)
+    (λ c. search needs)
     returns-2)

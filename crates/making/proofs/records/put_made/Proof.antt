@@ -14,12 +14,6 @@ use borrow.Author.Needs.{needs}
 use Rattle.making.proofs.records.put_made.Statement.{statement}
 use Rattle.making.proofs.records.put_made.Tie as tie
 
-text-length-requires : tie.Need-text-length-requires
-text-length-requires c κs = search needs
-
-text-count-requires : tie.Need-text-count-requires
-text-count-requires c κs = search needs
-
 -- how far behind the place is
 long : (x : Made) (to size count n : ℕ) → size ≡ textLength (x .text) → count ≡ length (textFields (x .text)) → (n ≡ recordLength size count) × (n ≤ 391)
     → (to + n ≡ to + madeLength x) × (to + n ≤ to + 391)
@@ -28,23 +22,8 @@ long x to size count n s k e = (ap (λ i. to + i) (e .0 ∙ ap (λ i. recordLeng
 record-length-requires : tie.Need-record-length-requires
 record-length-requires c κs = let a = c .before .before .before .before .args in let f = c .before .before .before .before .pre .0 .0 in let o = part (a .s .now) (a .x .from) (a .x .end - a .x .from) in let s = text-short (a .x .text) o (f .text) in let h = text-half (a .x .text) o (f .text) in (omega arith, omega arith)
 
-add-behind : tie.Need-add-behind
-add-behind c = search needs
-
-sub-put-record : tie.Need-sub-put-record
-sub-put-record c = search needs
-
-part-put-record-start : tie.Need-part-put-record-start
-part-put-record-start c = search needs
-
-part-put-record-end : tie.Need-part-put-record-end
-part-put-record-end c = search needs
-
 put-record-requires : tie.Need-put-record-requires
 put-record-requires c κs = let p = c .before .before .before .before .before .before .before .before .before .pre in (p .0 .0 .text, rw (ne-eqb _ _ (λ z. c .before .before .if2 .taken (c .before .before .before .before .before .before .text-length .ensures ∙ z))) at (p .1 (c .before .before .before .if1 .taken)))
-
-same-length : tie.Need-same-length
-same-length c = search needs
 
 returns : tie.Need-returns
 returns c = let a = c .before .before .before .before .before .before .before .before .before .before .before .before .args in let f = c .before .before .before .before .before .before .before .before .before .before .before .before .pre .0 .0 in let o = part (a .s .now) (a .x .from) (a .x .end - a .x .from) in let size = c .before .before .before .before .before .before .before .before .before .text-length .ensures in (
@@ -65,15 +44,15 @@ pub put-made-spec : {M : Type 1} → statement M
 put-made-spec =
     tie.close
     (tie.spec
-    text-length-requires
-    text-count-requires
+    (λ c κs. search needs)
+    (λ c κs. search needs)
     record-length-requires
-    add-behind
-    sub-put-record
-    part-put-record-start
-    part-put-record-end
+    (λ c. search needs)
+    (λ c. search needs)
+    (λ c. search needs)
+    (λ c. search needs)
     put-record-requires
-    same-length
+    (λ c. search needs)
     returns
     returns-2
     returns-3)

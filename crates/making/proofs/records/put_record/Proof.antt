@@ -14,44 +14,14 @@ use borrow.Author.Needs.{needs}
 use Rattle.making.proofs.records.put_record.Statement.{statement}
 use Rattle.making.proofs.records.put_record.Tie as tie
 
-text-length-requires : tie.Need-text-length-requires
-text-length-requires c κs = search needs
-
-text-count-requires : tie.Need-text-count-requires
-text-count-requires c κs = search needs
-
-add-fields : tie.Need-add-fields
-add-fields c = search needs
-
-add-text : tie.Need-add-text
-add-text c = search needs
-
-add-put-head : tie.Need-add-put-head
-add-put-head c = search needs
-
-add-put-head-2 : tie.Need-add-put-head-2
-add-put-head-2 c = search needs
-
 cast-put-head : tie.Need-cast-put-head
 cast-put-head c = let a = c .before .before .before .before .args in let f = c .before .before .before .before .pre .0 in let s = text-short (a .t) (a .o .now) f in let h = text-half (a .t) (a .o .now) f in omega arith
-
-cast-put-head-2 : tie.Need-cast-put-head-2
-cast-put-head-2 c = search needs
 
 cast-put-head-3 : tie.Need-cast-put-head-3
 cast-put-head-3 c = let a = c .before .before .before .before .args in let f = c .before .before .before .before .pre .0 in let s = text-short (a .t) (a .o .now) f in let h = text-half (a .t) (a .o .now) f in omega arith
 
-put-head-requires : tie.Need-put-head-requires
-put-head-requires c κs = search needs
-
 put-text-fields-requires : tie.Need-put-text-fields-requires
 put-text-fields-requires c κs = let a = c .before .before .before .before .before .before .before .before .before .args in let f = c .before .before .before .before .before .before .before .before .before .pre .0 in let s = text-short (a .t) (a .o .now) f in let h = text-half (a .t) (a .o .now) f in (s, omega arith)
-
-put-text-bytes-requires : tie.Need-put-text-bytes-requires
-put-text-bytes-requires c κs = search needs
-
-same-length : tie.Need-same-length
-same-length c = search needs
 
 returns : tie.Need-returns
 returns c =
@@ -67,17 +37,17 @@ pub put-record-spec : {M : Type 1} → statement M
 put-record-spec =
     tie.close
     (tie.spec
-    text-length-requires
-    text-count-requires
-    add-fields
-    add-text
-    add-put-head
-    add-put-head-2
+    (λ c κs. search needs)
+    (λ c κs. search needs)
+    (λ c. search needs)
+    (λ c. search needs)
+    (λ c. search needs)
+    (λ c. search needs)
     cast-put-head
-    cast-put-head-2
+    (λ c. search needs)
     cast-put-head-3
-    put-head-requires
+    (λ c κs. search needs)
     put-text-fields-requires
-    put-text-bytes-requires
-    same-length
+    (λ c κs. search needs)
+    (λ c. search needs)
     returns)

@@ -3,24 +3,19 @@ use borrow.Author.Needs.{needs}
 use Rattle.making.proofs.records.put_text_fields.Statement.{statement}
 use Rattle.making.proofs.records.put_text_fields.Tie as tie
 
-enum-told : tie.Need-enum-told
-enum-told c = search needs
-
-enum-known-t : tie.Need-enum-known-t
-enum-known-t c = search needs
-
 put-fields-requires : tie.Need-put-fields-requires
 put-fields-requires c κs = let p = rw (c .before .before .t .given .1) at (c .before .before .before .before .before .pre) in p
-
-returns : tie.Need-returns
-returns c = search needs
-
-same-length : tie.Need-same-length
-same-length c = search needs
 
 returns-2 : tie.Need-returns-2
 returns-2 c = rw (c .before .before .before .before .before .t .given .1) (c .before .before .put-fields .ensures)
 
 pub put-text-fields-spec : {M : Type 1} → statement M
 put-text-fields-spec =
-    tie.close (tie.spec enum-told enum-known-t put-fields-requires returns same-length returns-2)
+    tie.close
+    (tie.spec
+    (λ c. search needs)
+    (λ c. search needs)
+    put-fields-requires
+    (λ c. search needs)
+    (λ c. search needs)
+    returns-2)

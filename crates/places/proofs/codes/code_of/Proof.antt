@@ -12,47 +12,17 @@ use borrow.Author.Needs.{needs}
 use Rattle.places.proofs.codes.code_of.Statement.{statement}
 use Rattle.places.proofs.codes.code_of.Tie as tie
 
-rule-of-requires : tie.Need-rule-of-requires
-rule-of-requires c κs = search needs
-
-enum-known-x : tie.Need-enum-known-x
-enum-known-x c = search needs
-
-two-code-requires : tie.Need-two-code-requires
-two-code-requires c κs = search needs
-
-enum-known-x-2 : tie.Need-enum-known-x-2
-enum-known-x-2 c = search needs
-
-absolute-in-requires : tie.Need-absolute-in-requires
-absolute-in-requires c κs = search needs
-
-behind-code-requires : tie.Need-behind-code-requires
-behind-code-requires c κs = search needs
-
-enum-known-x-3 : tie.Need-enum-known-x-3
-enum-known-x-3 c = search needs
-
-absolute-in-requires-2 : tie.Need-absolute-in-requires-2
-absolute-in-requires-2 c κs = search needs
-
-behind-code-requires-2 : tie.Need-behind-code-requires-2
-behind-code-requires-2 c κs = search needs
-
-given-code-requires : tie.Need-given-code-requires
-given-code-requires c κs = search needs
-
 returns : tie.Need-returns
 unfolding codeOf
 returns c = rw (c .two-code .ensures, c .before .before .before .before .rule-of .ensures, c .before .before .x .given .1)
 
 returns-2 : tie.Need-returns-2
 unfolding codeOf
-returns-2 c = rw (c .behind-code .ensures, c .before .absolute-in .ensures, c .before .before .before .before .before .rule-of .ensures, c .before .before .before .x2 .given .1)
+returns-2 c = rw (c .behind-code .ensures, c .before .before .before .before .rule-of .ensures, c .before .before .x2 .given .1)
 
 returns-3 : tie.Need-returns-3
 unfolding codeOf
-returns-3 c = rw (c .behind-code2 .ensures, c .before .absolute-in2 .ensures, c .before .before .before .before .before .rule-of .ensures, c .before .before .before .x3 .given .1)
+returns-3 c = rw (c .behind-code2 .ensures, c .before .before .before .before .rule-of .ensures, c .before .before .x3 .given .1)
 
 others : (op : Operation) (x : Operands) → OneOf (2 ∷ 4 ∷ 5 ∷ 6 ∷ []) (tagOf the-type x) → givenCode (ruleOf op) ≡ codeOf op x
 unfolding codeOf
@@ -71,16 +41,14 @@ pub code-of-spec : {M : Type 1} → statement M
 code-of-spec =
     tie.close
     (tie.spec
-    rule-of-requires
-    enum-known-x
-    two-code-requires
-    enum-known-x-2
-    absolute-in-requires
-    behind-code-requires
-    enum-known-x-3
-    absolute-in-requires-2
-    behind-code-requires-2
-    given-code-requires
+    (λ c κs. search needs)
+    (λ c. search needs)
+    (λ c κs. search needs)
+    (λ c. search needs)
+    (λ c κs. search needs)
+    (λ c. search needs)
+    (λ c κs. search needs)
+    (λ c κs. search needs)
     returns
     returns-2
     returns-3

@@ -12,57 +12,6 @@ use borrow.Author.Needs.{needs}
 use Rattle.places.proofs.codes.two_code.Statement.{statement}
 use Rattle.places.proofs.codes.two_code.Tie as tie
 
-enum-told : tie.Need-enum-told
-enum-told c = search needs
-
-length-or-requires : tie.Need-length-or-requires
-length-or-requires c κs = search needs
-
-length-or-requires-2 : tie.Need-length-or-requires-2
-length-or-requires-2 c κs = search needs
-
-lengths-of-requires : tie.Need-lengths-of-requires
-lengths-of-requires c κs = search needs
-
-enum-told-2 : tie.Need-enum-told-2
-enum-told-2 c = search needs
-
-length-or-requires-3 : tie.Need-length-or-requires-3
-length-or-requires-3 c κs = search needs
-
-item-or-requires : tie.Need-item-or-requires
-item-or-requires c κs = search needs
-
-length-of-requires : tie.Need-length-of-requires
-length-of-requires c κs = search needs
-
-enum-told-3 : tie.Need-enum-told-3
-enum-told-3 c = search needs
-
-item-or-requires-2 : tie.Need-item-or-requires-2
-item-or-requires-2 c κs = search needs
-
-item-or-requires-3 : tie.Need-item-or-requires-3
-item-or-requires-3 c κs = search needs
-
-item-of-requires : tie.Need-item-of-requires
-item-of-requires c κs = search needs
-
-enum-known-rule : tie.Need-enum-known-rule
-enum-known-rule c = search needs
-
-returns : tie.Need-returns
-returns c = rw (c .lengths-of .ensures, c .before .length-or2 .ensures, c .before .before .length-or .ensures, c .before .before .before .enum-told .given .1)
-
-returns-2 : tie.Need-returns-2
-returns-2 c = rw (c .length-of .ensures, c .before .item-or .ensures, c .before .before .length-or3 .ensures, c .before .before .before .enum-told2 .given .1)
-
-returns-3 : tie.Need-returns-3
-returns-3 c = rw (c .item-of .ensures, c .before .item-or3 .ensures, c .before .before .item-or2 .ensures, c .before .before .before .enum-told3 .given .1)
-
-returns-4 : tie.Need-returns-4
-returns-4 c = rw (c .before .rule .given .1)
-
 others : (r : Rule) (a b : EvaluatedAddress) → OneOf (3 ∷ 4 ∷ []) (tagOf the-type r) → Code.Nothing ≡ twoCode r a b
 others Rule.Lengths a b k = absurd (miss (3 ∷ 4 ∷ []) 0 tt k)
 others Rule.Length a b k = absurd (miss (3 ∷ 4 ∷ []) 1 tt k)
@@ -71,28 +20,19 @@ others Rule.Register a b k = refl
 others Rule.Written a b k = refl
 others (Rule.Given q) a b k = absurd (miss (3 ∷ 4 ∷ []) 5 tt k)
 
-returns-5 : tie.Need-returns-5
-returns-5 c = others (c .before .args .rule) (c .before .args .a) (c .before .args .b) (c .match .keys5)
-
 pub two-code-spec : {M : Type 1} → statement M
 two-code-spec =
     tie.close
     (tie.spec
-    enum-told
-    length-or-requires
-    length-or-requires-2
-    lengths-of-requires
-    enum-told-2
-    length-or-requires-3
-    item-or-requires
-    length-of-requires
-    enum-told-3
-    item-or-requires-2
-    item-or-requires-3
-    item-of-requires
-    enum-known-rule
-    returns
-    returns-2
-    returns-3
-    returns-4
-    returns-5)
+    (λ c. search needs)
+    (λ c κs. search needs)
+    (λ c. search needs)
+    (λ c κs. search needs)
+    (λ c. search needs)
+    (λ c κs. search needs)
+    (λ c. search needs)
+    (λ c. rw (c .each-length .ensures, c .before .enum-told .given .1))
+    (λ c. rw (c .one-length .ensures, c .before .enum-told2 .given .1))
+    (λ c. rw (c .one-item .ensures, c .before .enum-told3 .given .1))
+    (λ c. rw (c .before .rule .given .1))
+    (λ c. others (c .before .args .rule) (c .before .args .a) (c .before .args .b) (c .match .keys5)))
