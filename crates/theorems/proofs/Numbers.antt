@@ -24,7 +24,7 @@ use Rattle.theorems.specs.Grow.{lookIn}
 use Rattle.theorems.specs.Accepted.{oneAt, twoAt, FirstRefused}
 use Rattle.theorems.proofs.Accepted.{Fate, fate}
 
--- refl, or 9 to 24: a test that computes
+-- none, or 9 to 24: a test that computes
 abbrev Number : ℕ → Type 0
 Number n = either (eqb n 0) (both (leb 9 n) (leb n 24)) ≡ true
 
@@ -233,7 +233,7 @@ cards-number ss number card h = go (rw h at (fate ss))
     go (Fate.noEnd each no-end) = inr (refl, refl)
     go (Fate.byTwo each end number card x) = first (twoAt (lookIn ss) outset ss) (λ k. two-number _ _ _) number card x
 
--- so the number is refl of 1 to 3, and not 30
+-- so the number is none of 1 to 3, and not 30
 pub cards-range : (ss : List (List ℕ)) (number card : ℕ) → assembled ss ≡ refused number card → (9 ≤ number) × (number ≤ 24) × (card ≤ length ss)
 cards-range ss number card h = go (cards-number ss number card h)
   where
