@@ -1,4 +1,4 @@
--- Document 01, "Instructions", the table's column "Written": an address at a position, from the columns alone. One that fails says the first position at which it could not go on.
+-- R9.1 to R9.4: an address at a position, from the columns alone. One that fails says the first position at which it could not go on.
 use Prim.Native.Nat.{ℕ, _+_}
 use mathlib.Core.List.{List}
 use Rattle.letters.specs.Text.{stands}
@@ -43,7 +43,7 @@ lengthAt s at p = behind (formOf (expressionAt s p)) (λ q. behindLength s at p 
 unfoldable pub orRegister : List ℕ → ℕ → ℕ → Addressed → Addressed
 orRegister s at p other = pick (stands "," s p) (registerAt s at Absent (p + 1)) other
 
--- behind the opening parenthesis. "A lone item in parentheses is a length in two-address cards, refusal 15 in extended moves, a register elsewhere"
+-- R9.3: behind the opening parenthesis: a lone item is a length, or refused, or a register
 abbrev pub itemsAt : Allowed → List ℕ → ℕ → ℕ → Addressed
 itemsAt MayHaveLength s at p = orRegister s at p (lengthAt s at p)
 itemsAt HasLength s at p = lengthAt s at p
@@ -60,6 +60,6 @@ plain OnlyRegister at q = Reads (address at Absent Absent) q
 unfoldable pub behindAddress : Allowed → List ℕ → ℕ → ℕ → Addressed
 behindAddress w s at q = pick (stands "(" s q) (itemsAt w s at (q + 1)) (plain w at q)
 
--- the address at a position: "E(L), E(L,R), E(,R), E" of two addresses, where the length may, must or must not be there; "E, E(R) or E(,R)" of one
+-- R9.1: the address at a position: E(L), E(L,R), E(,R) or E of two, where the length may, must or must not be there; E, E(R) or E(,R) of one
 unfoldable pub addressAt : Allowed → List ℕ → ℕ → Addressed
 addressAt w s at = behind (formOf (expressionAt s at)) (λ q. behindAddress w s at q)

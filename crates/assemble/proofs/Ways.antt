@@ -14,8 +14,8 @@ use Rattle.book.specs.Writing.{bookBytes}
 use Rattle.cards.specs.Source.{sourceNo, cardsOf}
 use Rattle.passes.specs.declared.Assembled.{Assembled}
 use Rattle.passes.specs.declared.Assembled.the-variants.{Made, Refused}
-use Rattle.passes.specs.declared.Checked.{Checked}
-use Rattle.passes.specs.declared.Checked.the-variants.{Clean, Bad}
+use Rattle.passes.specs.Two.{Checked}
+use Rattle.passes.specs.Two.Checked.{clean, bad}
 use Rattle.passes.specs.One.{State, fresh, passOne}
 use Rattle.passes.specs.One.Passed.{through, stopped}
 use Rattle.passes.specs.Two.{outset, checkTwo, bookFrom}
@@ -38,14 +38,15 @@ book-written names bytes work out n o e h s =
     let w = fits names bytes work out (rw e at h) in
     (ap (λ k. Made k names) e ∙ sym (ap (λ (x : Outcome). x .answer) w), s ∙ sym (ap (λ (x : Outcome). x .out) w))
 
-pub refused-two : (ss : List (List ℕ)) (names : List Name) (x : Checked) (number card : ℕ) (work out : List ℕ) → Bad number card ≡ x
-    → (Refused number card ≡ outcomeOf (afterTwo ss names x) work out .answer) × (out ≡ outcomeOf (afterTwo ss names x) work out .out)
-refused-two ss names x number card work out e = rw (sym e) (refl, refl)
+-- pass two, which leaves the output as it was while it judges
+pub refused-two : (ss : List (List ℕ)) (names : List Name) (x : Checked) (number card : ℕ) (work out left : List ℕ) → bad number card ≡ x → left ≡ out
+    → (Refused number card ≡ outcomeOf (afterTwo ss names x) work out .answer) × (left ≡ outcomeOf (afterTwo ss names x) work out .out)
+refused-two ss names x number card work out left e same = rw (sym e) (refl, same)
 
-pub clean-two : (ss : List (List ℕ)) (names : List Name) (x : Checked) (work out : List ℕ) (count : ℕ) (r : Assembled) (o : List ℕ) → Clean ≡ x → length names ≡ count
-    → r ≡ written count (bookBytes (bookFrom (find names) ss)) work out .answer → o ≡ written count (bookBytes (bookFrom (find names) ss)) work out .out
+pub clean-two : (ss : List (List ℕ)) (names : List Name) (x : Checked) (work out left : List ℕ) (count : ℕ) (r : Assembled) (o : List ℕ) → clean ≡ x → left ≡ out → length names ≡ count
+    → r ≡ written count (bookBytes (bookFrom (find names) ss)) work left .answer → o ≡ written count (bookBytes (bookFrom (find names) ss)) work left .out
     → (r ≡ outcomeOf (afterTwo ss names x) work out .answer) × (o ≡ outcomeOf (afterTwo ss names x) work out .out)
-clean-two ss names x work out count r o e l a b = rw (sym e, l) (a, b)
+clean-two ss names x work out left count r o e same l a b = rw (sym e, l, sym same) (a, b)
 
 pub refused-one : (ss : List (List ℕ)) (number card : ℕ) (work out : List ℕ) → stopped number card ≡ passOne 1 fresh ss
     → (Refused number card ≡ outcomeOf (assembled ss) work out .answer) × (out ≡ outcomeOf (assembled ss) work out .out)

@@ -1,25 +1,24 @@
 // The whole assembly: refusals 1, 2 and 3, both passes, 30, the book; then the work area is cleared.
 use cards::source::source_no;
 use names::clear;
-use one::One;
-use one::run_one;
+use pass_one::PassedOne;
+use pass_one::run_one;
+use pass_two::Judged;
+use pass_two::run_two;
 use passes::Assembled;
-use two::Judged;
-use two::judge_two;
-use two::write_book;
 ghost use mathlib.Core.Path.{_≡_};
 ghost use mathlib.Core.Bool.{true};
 ghost use Prim.Native.Nat.{_*_, _^_, _≤_, _<_};
 ghost use lib.ListN.{length, drop};
-ghost use Rattle.names.specs.Names.{find, ascending};
+ghost use Rattle.names.specs.Names.{ascending};
 ghost use Rattle.names.specs.Table.{namesIn};
 ghost use Rattle.cards.specs.Source.{sourceNo, cardsOf};
-ghost use Rattle.book.specs.Writing.{bookBytes};
 ghost use Rattle.passes.specs.Sound.{sound};
-ghost use Rattle.passes.specs.Two.{outset, checkTwo, bookFrom};
+ghost use Rattle.passes.specs.Two.Checked.{clean};
+ghost use Rattle.pass_two.specs.Code.{checkedIn, bytesIn};
 ghost use Rattle.passes.specs.Assembly.{afterTwo, assembled, written, outcomeOf, assembling};
 
-// 30, or the book of so many bytes in the output.
+// 30, or the book in the output: pass two, which has refused no card and found so many bytes, once more.
 fn write(
     size: usize,
     width: usize,
@@ -30,25 +29,25 @@ fn write(
 ) -> Assembled
     requires { ⌜ (sourceNo width (length (now source)) ≡ 0) × (sound (cardsOf width (now source)) ≡ true) ⌝ }
     requires { ⌜ (16 * count ≤ length (now table)) × (ascending (namesIn count (now table)) ≡ true) × (count ≤ 512) ⌝ }
-    requires { ⌜ (size ≡ length (bookBytes (bookFrom (find (namesIn count (now table))) (cardsOf width (now source))))) × (size < 2 ^ 32) ⌝ }
-    ensures { λ r. ⌜ r ≡ written count (bookBytes (bookFrom (find (namesIn count (now (table .entry)))) (cardsOf width (now (source .entry))))) (now (table .entry)) (now (out .entry)) .answer ⌝ }
-    ensures { λ _. ⌜ now (out .exit) ≡ written count (bookBytes (bookFrom (find (namesIn count (now (table .entry)))) (cardsOf width (now (source .entry))))) (now (table .entry)) (now (out .entry)) .out ⌝ }
+    requires { ⌜ (checkedIn width (now source) (now table) count ≡ clean) × (size ≡ length (bytesIn width (now source) (now table) count)) × (size < 2 ^ 32) ⌝ }
+    ensures { λ r. ⌜ r ≡ written count (bytesIn width (now (source .entry)) (now (table .entry)) count) (now (table .entry)) (now (out .entry)) .answer ⌝ }
+    ensures { λ _. ⌜ now (out .exit) ≡ written count (bytesIn width (now (source .entry)) (now (table .entry)) count) (now (table .entry)) (now (out .entry)) .out ⌝ }
 {
     if out.len() < size {
         return Assembled::Refused(30, 0);
     }
-    write_book(width, source, table, count, out);
+    let _ = run_two(width, source, table, count, true, out);
     Assembled::Made(size as u32, count as u16)
 }
 
-// Pass two over the names that pass one has found.
+// Pass two over the names that pass one has found: judging first, then writing.
 fn finish(width: usize, source: &[u8], table: &[u8], count: usize, out: &mut [u8]) -> Assembled
     requires { ⌜ (sourceNo width (length (now source)) ≡ 0) × (sound (cardsOf width (now source)) ≡ true) ⌝ }
     requires { ⌜ (16 * count ≤ length (now table)) × (ascending (namesIn count (now table)) ≡ true) × (count ≤ 512) ⌝ }
-    ensures { λ r. ⌜ r ≡ outcomeOf (afterTwo (cardsOf width (now (source .entry))) (namesIn count (now (table .entry))) (checkTwo (find (namesIn count (now (table .entry)))) 1 outset (cardsOf width (now (source .entry))))) (now (table .entry)) (now (out .entry)) .answer ⌝ }
-    ensures { λ _. ⌜ now (out .exit) ≡ outcomeOf (afterTwo (cardsOf width (now (source .entry))) (namesIn count (now (table .entry))) (checkTwo (find (namesIn count (now (table .entry)))) 1 outset (cardsOf width (now (source .entry))))) (now (table .entry)) (now (out .entry)) .out ⌝ }
+    ensures { λ r. ⌜ r ≡ outcomeOf (afterTwo (cardsOf width (now (source .entry))) (namesIn count (now (table .entry))) (checkedIn width (now (source .entry)) (now (table .entry)) count)) (now (table .entry)) (now (out .entry)) .answer ⌝ }
+    ensures { λ _. ⌜ now (out .exit) ≡ outcomeOf (afterTwo (cardsOf width (now (source .entry))) (namesIn count (now (table .entry))) (checkedIn width (now (source .entry)) (now (table .entry)) count)) (now (table .entry)) (now (out .entry)) .out ⌝ }
 {
-    match judge_two(width, source, table, count) {
+    match run_two(width, source, table, count, false, out) {
         Judged::Refused(number, card) => Assembled::Refused(number, card),
         Judged::Book(size) => write(size, width, source, table, count, out),
     }
@@ -62,8 +61,8 @@ fn translate(width: usize, source: &[u8], work: &mut [u8], out: &mut [u8]) -> As
     ensures { λ _. ⌜ now (out .exit) ≡ outcomeOf (assembled (cardsOf width (now (source .entry)))) (now (work .entry)) (now (out .entry)) .out ⌝ }
 {
     match run_one(width, source, work) {
-        One::Stopped(number, card) => Assembled::Refused(number, card),
-        One::Through(p) => finish(width, source, work, p.count, out),
+        PassedOne::Stopped(number, card) => Assembled::Refused(number, card),
+        PassedOne::Through(p) => finish(width, source, work, p.count, out),
     }
 }
 

@@ -1,4 +1,4 @@
--- The book (document 01, "The book"): a list of bytes read as an entry and records, or refused.
+-- R16, the book: a list of bytes read as an entry and records, or refused.
 use Prim.Native.Nat.{ℕ, zero, suc, _+_, _-_}
 use mathlib.Core.List.{List, [], _∷_}
 use mathlib.Core.Bool.{Bool, true}
@@ -10,26 +10,26 @@ use Rattle.values.specs.Words.{word, long, part}
 use Rattle.book.specs.declared.Entry.{Entry}
 use Rattle.book.specs.declared.Entry.the-variants.{Absent, At}
 
--- one record: its card, its address, the offsets of its relocatable fields, its text
+-- R16.4: one record: its card, its address, the offsets of its fields, its text
 pub record Record : Type 0 where
   pub card : ℕ
   pub address : ℕ
   pub fields : List ℕ
   pub text : List ℕ
 
--- a book: the entry, or none, and the records in card order
+-- R16.1: a book: the entry, or none, and the records in card order
 pub record Book : Type 0 where
   pub entry : Entry
   pub records : List Record
 
 -- WHAT A RECORD MUST BE
 
--- offsets ascending by at least 2, from `least` on, each with its two bytes inside a text of `size` bytes
+-- R16.6: offsets two or more apart, from `least` on, each with its two bytes inside a text of `size` bytes
 unfoldable pub fieldsFit : ℕ → ℕ → List ℕ → Bool
 fieldsFit least size [] = true
 fieldsFit least size (o ∷ os) = both (leb least o) (both (leb (o + 2) size) (fieldsFit (o + 2) size os))
 
--- a record that may follow the card `last`: card numbers rise to at most 4,000; text of 1 to 256 bytes, its address plus
+-- R16.4 to R16.6: a record that may follow the card `last`: card numbers rise to at most 4,000; text of 1 to 256 bytes, its address plus
 -- its length at most 65536; fields inside the text
 unfoldable pub fair : ℕ → Record → Bool
 fair last r =
@@ -39,7 +39,7 @@ fair last r =
     (both (leb (length (r .text)) 256)
     (both (leb (r .address + length (r .text)) 65536) (fieldsFit 0 (length (r .text)) (r .fields))))))
 
--- A RECORD AT A PLACE: its head, which is the length of its rest, its card, its address, the count of its fields; behind it the offsets, the text
+-- R16.4: A RECORD AT A PLACE: its head, which is the length of its rest, its card, its address, the count of its fields; behind it the offsets, the text
 
 -- how many bytes the head has, of those the length counts: card, address, count of fields
 abbrev pub restHead : ℕ
@@ -80,7 +80,7 @@ recordAt s at =
       text = part s (textAt s at) (sizeAt s at);
     }
 
--- a fair record stands at a place, whole
+-- R16.8: a fair record stands at a place, whole
 unfoldable pub recordOk : List ℕ → ℕ → ℕ → Bool
 recordOk s at last =
     both (leb (nextAt s at) (length s)) (both (leb (restHead + countAt s at) (restAt s at)) (fair last (recordAt s at)))
@@ -91,14 +91,14 @@ abbrev pub onto : Record → Option (List Record) → Option (List Record)
 onto r none = none
 onto r (some rs) = some (r ∷ rs)
 
--- the records from a place to the end, where nothing follows; the first number only bounds the recursion
+-- R16.7: the records from a place to the end, with nothing behind the last; the first number only bounds the recursion
 unfoldable pub recordsFrom : ℕ → List ℕ → ℕ → ℕ → Option (List Record)
 recordsFrom zero s at last = none
 recordsFrom (suc n) s at last =
     pick (eqb at (length s)) (some [])
     (pick (recordOk s at last) (onto (recordAt s at) (recordsFrom n s (nextAt s at) (cardAt s at))) none)
 
--- the length of the rest, version 1, the flag 0 or 1, the entry 0 where the flag is 0
+-- R16.2, R16.7: the length of the rest, version 1, the flag 0 or 1, the entry 0 where the flag is 0
 unfoldable pub headerOk : List ℕ → Bool
 headerOk s =
     both (leb 8 (length s))
@@ -106,7 +106,7 @@ headerOk s =
     (both (eqb (getD s 4 0) 1)
     (both (leb (getD s 5 0) 1) (pick (eqb (getD s 5 0) 0) (eqb (word s 6) 0) true))))
 
--- the entry, where the flag says that there is one
+-- R16.2: the entry, where the flag says that there is one
 unfoldable pub entryAt : List ℕ → Entry
 entryAt s = pick (eqb (getD s 5 0) 0) Absent (At (record { 0 = word s 6 }))
 
@@ -114,6 +114,6 @@ abbrev pub withEntry : Entry → Option (List Record) → Option Book
 withEntry e none = none
 withEntry e (some rs) = some (record { entry = e; records = rs })
 
--- the book that a list of bytes is; none where it breaks its layout (refusal 50)
+-- R16.8: the book that a list of bytes is; none where it breaks its layout (50)
 unfoldable pub bookOf : List ℕ → Option Book
 bookOf s = pick (headerOk s) (withEntry (entryAt s) (recordsFrom (length s) s 8 0)) none

@@ -1,4 +1,4 @@
--- What the readers of a book answer.
+-- R16.10: what the readers of a book answer.
 use Prim.Native.Nat.{ℕ, _+_, _≤_}
 use mathlib.Core.List.{List, []}
 use mathlib.Core.Path.{_≡_}
@@ -44,7 +44,7 @@ recordThere s p =
 abbrev pub behind : List ℕ → ℕ → Cursor
 behind s at = record { at = nextAt s at; card = cardAt s at }
 
--- one record at a time: the record at a place, the end, or a broken layout
+-- R16.10: one step: the record at a place, the end, or a broken layout
 unfoldable pub stepAt : List ℕ → ℕ → ℕ → Step
 stepAt s at last = pick (eqb at (length s)) End (pick (recordOk s at last) (Record (placeAt s at) (behind s at)) Broken)
 
@@ -55,7 +55,7 @@ abbrev pub layoutIn : Option Book → Layout
 layoutIn none = Layout.Broken
 layoutIn (some b) = Whole (b .entry)
 
--- whether a list of bytes keeps the layout of a book, and then its entry
+-- R16.8: whether a list of bytes keeps the layout of a book, and then its entry
 unfoldable pub layoutOf : List ℕ → Layout
 layoutOf s = layoutIn (bookOf s)
 

@@ -1,4 +1,4 @@
--- A book's bytes, from its entry and records.
+-- R16.2, R16.4: a book's bytes, from its entry and records.
 use Prim.Native.Nat.{ℕ, _+_}
 use mathlib.Core.List.{List, [], _∷_, _++_}
 use mathlib.Core.Bool.{Bool, true}
@@ -10,11 +10,11 @@ use Rattle.book.specs.declared.Entry.{Entry}
 use Rattle.book.specs.declared.Entry.the-variants.{Absent, At}
 use Rattle.book.specs.Book.{Record, Book, fair, restHead, recordHead}
 
--- a record's head: the length of its rest, its card, its address, the count of its fields
+-- R16.4: a record's head: the length of its rest, its card, its address, the count of its fields
 abbrev pub headBytes : ℕ → ℕ → ℕ → ℕ → List ℕ
 headBytes rest card address count = twoBytes rest ++ (twoBytes card ++ (twoBytes address ++ (count ∷ [])))
 
--- the head, the offsets, the text
+-- R16.4: the head, the offsets, the text
 unfoldable pub recordBytes : Record → List ℕ
 recordBytes r =
     headBytes (restHead + length (r .fields) + length (r .text)) (r .card) (r .address) (length (r .fields)) ++ (r .fields ++ r .text)
@@ -27,16 +27,16 @@ unfoldable pub recordsBytes : List Record → List ℕ
 recordsBytes [] = []
 recordsBytes (r ∷ rs) = recordBytes r ++ recordsBytes rs
 
--- the flag and the entry
+-- R16.2: the flag and the entry
 abbrev pub entryBytes : Entry → List ℕ
 entryBytes Absent = 0 ∷ 0 ∷ 0 ∷ []
 entryBytes (At e) = 1 ∷ twoBytes (e .0)
 
--- a book's header: the length of the rest, version 1, the entry
+-- R16.2: a book's header: the length of the rest, version 1, the entry
 abbrev pub headerBytes : ℕ → Entry → List ℕ
 headerBytes rest e = fourBytes rest ++ (1 ∷ entryBytes e)
 
--- the header, the records; the rest begins behind the length
+-- R16.1: the header, the records; the rest begins behind the length
 unfoldable pub bookBytes : Book → List ℕ
 bookBytes b = headerBytes (4 + length (recordsBytes (b .records))) (b .entry) ++ recordsBytes (b .records)
 

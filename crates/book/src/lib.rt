@@ -1,4 +1,4 @@
-// The book (document 01, "The book"): its header, and its records read one at a time.
+// R16, the book: its header, and its records read one at a time.
 pub mod writing;
 
 ghost use mathlib.Core.Path.{_≡_};

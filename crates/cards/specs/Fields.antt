@@ -1,4 +1,4 @@
--- Document 01, "Cards": a card's statement columns taken apart. Positions count from 0.
+-- R2: a card's statement columns taken apart. Positions count from 0.
 use Prim.Native.Nat.{ℕ, zero, suc, _+_, _-_}
 use Prim.Native.Char.{Char}
 use mathlib.Core.List.{List, [], _∷_}
@@ -15,12 +15,12 @@ use Rattle.cards.specs.declared.Fields.{Fields}
 use Rattle.cards.specs.declared.Card.{Card}
 use Rattle.cards.specs.declared.Card.the-variants.{Comment, BadName, Statement}
 
--- "Accepted bytes in statement columns": every byte is one of them
+-- R2.2: every byte is an accepted one
 unfoldable pub allAccepted : List ℕ → Bool
 allAccepted [] = true
 allAccepted (b ∷ bs) = both (isAccepted (classOf b)) (allAccepted bs)
 
--- 10: "byte not accepted"
+-- R2.2: 10, a byte that is not accepted
 unfoldable pub byteNo : List ℕ → ℕ
 byteNo s = pick (allAccepted s) 0 10
 
@@ -31,19 +31,19 @@ isBlankByte b = isBlank (classOf b)
 abbrev pub blankAt : List ℕ → ℕ → Bool
 blankAt s at = isBlankByte (getD s at 0)
 
--- "parted by blanks": the position behind the n columns at most that are blank from a position on
+-- R2.5: the position behind the n columns at most that are blank from a position on
 abbrev pub blanksEnd : ℕ → List ℕ → ℕ → ℕ
 blanksEnd n s at = runEnd isBlankByte n s at
 
--- .. and behind those that are not blank
+-- R2.6: .. and behind those that are not blank
 abbrev pub wordEnd : ℕ → List ℕ → ℕ → ℕ
 wordEnd n s at = runEnd (λ b. not (isBlankByte b)) n s at
 
--- a position lies inside apostrophes where an odd number of them stands before it in the operand
+-- R2.7: a position lies inside apostrophes where an odd number of them stands before it in the operand
 abbrev pub turned : Bool → List ℕ → ℕ → Bool
 turned inside s at = pick (stands "'" s at) (not inside) inside
 
--- "The operand ends at the first blank outside apostrophes", or behind the n columns that are left
+-- R2.7: the operand's end: a blank outside apostrophes, or behind the n columns that are left
 unfoldable pub operandEnd : ℕ → Bool → List ℕ → ℕ → ℕ
 operandEnd zero inside s at = at
 operandEnd (suc n) inside s at = pick (both (not inside) (blankAt s at)) at (operandEnd n (turned inside s at) s (at + 1))
@@ -58,11 +58,11 @@ endOfWord s at = wordEnd (length s - at) s at
 abbrev pub endOfOperand : List ℕ → ℕ → ℕ
 endOfOperand s at = operandEnd (length s - at) false s at
 
--- "a lone comma means no operand"
+-- R2.8: a comma alone is no operand
 abbrev pub loneComma : List ℕ → ℕ → ℕ → Bool
 loneComma s from to = both (eqb to (from + 1)) (stands "," s from)
 
--- "Operation, operand and remark follow, parted by blanks": where they lie, from a column on. An absent one ends where it starts
+-- R2.5 to R2.8: where operation and operand lie, from a column on. An absent one ends where it starts
 unfoldable pub fieldsBehind : ℕ → List ℕ → ℕ → Fields
 fieldsBehind name s at =
     let operation = nextWord s at in
@@ -71,15 +71,15 @@ fieldsBehind name s at =
     let to = endOfOperand s from in
     record { name = name; operation = operation; behind = behind; operand = from; end = pick (loneComma s from to) from to }
 
--- a name ends at a blank or with the last column
+-- R2.6: a name ends at a blank or with the last column
 abbrev pub nameEnds : List ℕ → ℕ → Bool
 nameEnds s at = either (leb (length s) at) (blankAt s at)
 
--- 11: a name is all that stands in column 1 and behind it up to a blank
+-- R2.6, R3.1: 11, where what stands from column 1 to a blank is no name
 abbrev pub namedCard : List ℕ → NameRead → Card
 namedCard s (Named number next) = pick (nameEnds s next) (Statement (fieldsBehind number s next)) BadName
 namedCard s (NoName place) = BadName
 
--- "Column 1 `*`: a comment. Else a name starts in column 1, or column 1 is blank." No name is the number 0
+-- R2.4, R2.6: a card by its column 1: a comment, no name (the number 0), or a name
 unfoldable pub cardOf : List ℕ → Card
 cardOf s = pick (stands "*" s 0) Comment (pick (blankAt s 0) (Statement (fieldsBehind 0 s 0)) (namedCard s (nameAt s 0)))

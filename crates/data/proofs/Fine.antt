@@ -6,6 +6,7 @@ use native.Mathlib.Nat.{mul-le-mul}
 use native.Mathlib.Omega.{arith}
 use borrow.Author.Tests.{ltb-false, leb-true}
 use lib.Dec.{ltb, leb}
+use Rattle.values.proofs.Laws.{clash}
 use Rattle.values.specs.Tests.{pick, both}
 use Rattle.data.specs.declared.DataType.{DataType}
 use Rattle.data.specs.declared.DataType.the-variants.{Characters, Hexadecimal, Decimal, Address}
@@ -18,7 +19,7 @@ longest-most Hexadecimal = omega arith
 longest-most Decimal = omega arith
 longest-most Address = omega arith
 
--- "length m (1 to 256)"
+-- R8.5: m is 1 to 256
 pub fits-length : (d : Data) → lengthFits d ≡ true → (1 ≤ d .length) × (d .length ≤ longest (d .kind)) × (d .length ≤ 256)
 unfolding lengthFits
 fits-length d e = go (leb 1 (d .length)) refl (leb (d .length) (longest (d .kind))) refl e
@@ -28,8 +29,8 @@ fits-length d e = go (leb 1 (d .length)) refl (leb (d .length) (longest (d .kind
     go true f true g e =
         let l = leb-true (d .length) (longest (d .kind)) g in
         (leb-true 1 (d .length) f, l, omega (arith, longest-most (d .kind)))
-    go true f false g e = let z : _≡_ {A = ℕ} 0 1 = cc in absurd (omega arith)
-    go false f y g e = let z : _≡_ {A = ℕ} 0 1 = cc in absurd (omega arith)
+    go true f false g e = clash (cc)
+    go false f y g e = clash (cc)
 
 -- what is known of a DC card that is not refused
 pub record Constant (d : Data) : Type 0 where

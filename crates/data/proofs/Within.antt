@@ -9,6 +9,7 @@ use borrow.Author.Tests.{eqb-true, eqb-false, le-ltb}
 use lib.Dec.{eqb, ltb}
 use lib.ListN.{length, getD}
 use Rattle.letters.specs.Text.{stands}
+use Rattle.values.proofs.Laws.{clash}
 use Rattle.values.specs.Tests.{pick}
 use Rattle.letters.specs.Letters.{digitOf}
 use Rattle.letters.specs.Text.{isFromTo}
@@ -132,7 +133,7 @@ type-zero = refl
 -- a type stands inside
 pub type-inside : (s : List ℕ) (at : ℕ) (kind : DataType) → typeOf (getD s at 0) ≡ Typed.Of kind → at < length s
 type-inside s at kind e =
-    inside s at (λ z. let f : Typed.Nothing ≡ Typed.Of kind = sym (ap typeOf z ∙ type-zero) ∙ e in let q : _≡_ {A = ℕ} 0 1 = cc in omega arith)
+    inside s at (λ z. let f : Typed.Nothing ≡ Typed.Of kind = sym (ap typeOf z ∙ type-zero) ∙ e in clash (cc))
 
 abbrev pub HeadWithin : List ℕ → HeadForm → Type 0
 HeadWithin s (HeadForm.Of h) = h .next ≤ length s
@@ -217,14 +218,14 @@ address-ends s d e k = go (headAt s) e
 
     value : (at : ℕ) (f : Form) → formOf (expressionAt s at) ≡ f → (count end : ℕ) → addressOf s f ≡ Extent.Of count end → Found at
     value at (Ends q) w count end t = (q, w)
-    value at (Form.Fails q) w count end t = let z : _≡_ {A = ℕ} 0 1 = cc in absurd (omega arith)
+    value at (Form.Fails q) w count end t = clash (cc)
 
     opened : (h : Head) → h .kind ≡ Address → (x : Bool) (count end : ℕ)
         → pick x (openedAt s (h .kind) (h .next + 1)) (Extent.Fails (h .next)) ≡ Extent.Of count end → Found (h .next + 1)
     opened h k true count end t =
         let u : addressOf s (formOf (expressionAt s (h .next + 1))) ≡ Extent.Of count end = sym (ap (λ kind. openedAt s kind (h .next + 1)) k) ∙ t in
         value (h .next + 1) (formOf (expressionAt s (h .next + 1))) refl count end u
-    opened h k false count end t = let z : _≡_ {A = ℕ} 0 1 = cc in absurd (omega arith)
+    opened h k false count end t = clash (cc)
 
     upTo : (h : Head) (x : Extent) → pick (eqb (getD s (h .next) 0) (openingOf (h .kind))) (openedAt s (h .kind) (h .next + 1)) (Extent.Fails (h .next)) ≡ x
         → constantUpTo s h x ≡ DataForm.Of d → Found (d .value)
@@ -235,9 +236,9 @@ address-ends s d e k = go (headAt s) e
             let i : constantData h count ≡ d = cc in
             let kind : h .kind ≡ Address = ap (λ (r : Data). r .kind) i ∙ k in
             rw (sym (ap (λ (r : Data). r .value) i)) (opened h kind (eqb (getD s (h .next) 0) (openingOf (h .kind))) count end w)
-        by false t = let z : _≡_ {A = ℕ} 0 1 = cc in absurd (omega arith)
-    upTo h (Extent.Fails place) w t = let z : _≡_ {A = ℕ} 0 1 = cc in absurd (omega arith)
+        by false t = clash (cc)
+    upTo h (Extent.Fails place) w t = clash (cc)
 
     go : (f : HeadForm) → constantOf s f ≡ DataForm.Of d → Found (d .value)
     go (HeadForm.Of h) t = upTo h (valueAt s (h .kind) (h .next)) refl t
-    go (HeadForm.Fails place) t = let z : _≡_ {A = ℕ} 0 1 = cc in absurd (omega arith)
+    go (HeadForm.Fails place) t = clash (cc)

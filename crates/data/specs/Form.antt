@@ -1,4 +1,4 @@
--- Document 01, "The counter and the data cards": the form of DC and DS operands, from the columns alone. An operand that has not this form,
+-- R8.1 to R8.3, R8.6: the form of DC and DS operands, from the columns alone. An operand that has not this form,
 -- and with it refusal 15, has the first position at which none could go on.
 use Prim.Native.Nat.{ℕ, zero, suc, _+_, _-_}
 use mathlib.Core.List.{List}
@@ -28,23 +28,23 @@ use Rattle.data.specs.Sizes.{needed}
 
 -- COPIES, TYPE AND LENGTH
 
--- "type T": C, X, D or A
+-- R8.1: the type: C, X, D or A
 unfoldable pub typeOf : ℕ → Typed
 typeOf b =
     pick (is "C" b) (Typed.Of Characters)
     (pick (is "X" b) (Typed.Of Hexadecimal) (pick (is "D" b) (Typed.Of Decimal) (pick (is "A" b) (Typed.Of Address) Typed.Nothing)))
 
--- "copies n (.. absent 1)": the digits before the type, which stands at a position
+-- R8.4: the copies, 1 where absent: the digits before the type, which stands at a position
 unfoldable pub copiesBefore : List ℕ → ℕ → ℕ
 copiesBefore s at = pick (eqb at 0) 1 (numberIn s 0 at)
 
--- an L and the digits behind it, up to a position
+-- R8.3: an L and the digits behind it, up to a position
 abbrev pub lengthUpTo : List ℕ → DataType → ℕ → ℕ → ℕ → HeadForm
 lengthUpTo s kind copies from end =
     pick (eqb end from) (HeadForm.Fails from)
     (HeadForm.Of (record { kind = kind; copies = copies; length = As (numberIn s from end); next = end }))
 
--- "length m", behind the type: an L and one or more digits, or nothing
+-- R8.3: behind the type an L and one or more digits, or nothing
 unfoldable pub lengthAt : List ℕ → DataType → ℕ → ℕ → HeadForm
 lengthAt s kind copies at =
     pick (stands "L" s at) (lengthUpTo s kind copies (at + 1) (digitsEnd 10 s (at + 1)))
@@ -63,14 +63,14 @@ headAt s = headFrom s (digitsEnd 10 s 0)
 
 -- VALUES
 
--- what stands inside the apostrophes, behind k characters: one more, or the closing apostrophe. "Each value has at least one character":
+-- R8.7, R8.10: what stands inside the apostrophes, behind k characters: one more, or the closing apostrophe. A value has a character:
 -- C'' could only go on with the apostrophe that makes it one
 abbrev pub charactersOn : ℕ → Quoted → (ℕ → Extent) → Extent
 charactersOn k (One code next) on = on next
 charactersOn k (Closed next) on = pick (eqb k 0) (Extent.Fails next) (Extent.Of (told k) next)
 charactersOn k (Nothing at) on = Extent.Fails at
 
--- characters, "an apostrophe written twice", up to the closing apostrophe; n bounds how many
+-- R8.7: characters, an apostrophe as two, up to the closing apostrophe; n bounds how many
 unfoldable pub charactersFrom : ℕ → List ℕ → ℕ → ℕ → Extent
 charactersFrom zero s at k = Extent.Fails at
 charactersFrom (suc n) s at k = charactersOn k (quotedAt s at) (λ next. charactersFrom n s next (k + 1))
@@ -79,7 +79,7 @@ charactersFrom (suc n) s at k = charactersOn k (quotedAt s at) (λ next. charact
 unfoldable pub charactersAt : List ℕ → ℕ → Extent
 charactersAt s at = charactersFrom (suc (length s)) s at 0
 
--- "at least one .. digit", and the closing apostrophe
+-- R8.8 to R8.10: one digit or more, and the closing apostrophe
 abbrev pub runUpTo : List ℕ → ℕ → ℕ → Extent
 runUpTo s at end =
     pick (eqb end at) (Extent.Fails at) (pick (stands "'" s end) (Extent.Of (told (end - at)) (end + 1)) (Extent.Fails end))
@@ -87,7 +87,7 @@ runUpTo s at end =
 unfoldable pub runAt : ℕ → List ℕ → ℕ → Extent
 runAt base s at = runUpTo s at (digitsEnd base s at)
 
--- "(expression)": the closing parenthesis
+-- R8.1: of type A the closing parenthesis behind the expression
 abbrev pub addressOf : List ℕ → Form → Extent
 addressOf s (Ends q) = pick (stands ")" s q) (Extent.Of 0 (q + 1)) (Extent.Fails q)
 addressOf s (Form.Fails q) = Extent.Fails q
@@ -95,7 +95,7 @@ addressOf s (Form.Fails q) = Extent.Fails q
 unfoldable pub addressAt : List ℕ → ℕ → Extent
 addressAt s at = addressOf s (formOf (expressionAt s at))
 
--- what opens a value
+-- R8.1: what opens a value
 abbrev pub openingOf : DataType → ℕ
 openingOf Characters = byte "'"
 openingOf Hexadecimal = byte "'"
@@ -118,14 +118,14 @@ abbrev pub writtenOr : WrittenLength → ℕ → ℕ
 writtenOr (As m) other = m
 writtenOr Absent other = other
 
--- DC, "Length absent: what the value needs", for A "absent 2"
+-- R8.6: the length of DC where it is absent
 abbrev pub constantLength : DataType → ℕ → ℕ
 constantLength Characters count = needed Characters count
 constantLength Hexadecimal count = needed Hexadecimal count
 constantLength Decimal count = needed Decimal count
 constantLength Address count = 2
 
--- DS, "absent is 1 for C, X and D", for A as for DC
+-- R8.6: the length of DS where it is absent
 abbrev pub reserveLength : DataType → ℕ
 reserveLength Characters = 1
 reserveLength Hexadecimal = 1
@@ -152,7 +152,7 @@ reserveData h = record {
   value = h .next;
 }
 
--- nothing stands behind a value
+-- R8.3: nothing stands behind a value
 abbrev pub constantUpTo : List ℕ → Head → Extent → DataForm
 constantUpTo s h (Extent.Of count end) = pick (eqb end (length s)) (DataForm.Of (constantData h count)) (DataForm.Fails end)
 constantUpTo s h (Extent.Fails at) = DataForm.Fails at
@@ -164,15 +164,15 @@ abbrev pub constantOf : List ℕ → HeadForm → DataForm
 constantOf s (HeadForm.Of h) = constantBehind s h
 constantOf s (HeadForm.Fails at) = DataForm.Fails at
 
--- DC: `nTLm'..'` or `nALm(expression)`
+-- R8.1: the operand of DC
 unfoldable pub constantForm : List ℕ → DataForm
 constantForm s = constantOf s (headAt s)
 
--- "no value": nothing stands behind copies, type and length
+-- R8.2: nothing stands behind copies, type and length
 abbrev pub reserveOf : List ℕ → HeadForm → DataForm
 reserveOf s (HeadForm.Of h) = pick (eqb (h .next) (length s)) (DataForm.Of (reserveData h)) (DataForm.Fails (h .next))
 reserveOf s (HeadForm.Fails at) = DataForm.Fails at
 
--- DS: `nTLm`
+-- R8.2: the operand of DS
 unfoldable pub reserveForm : List ℕ → DataForm
 reserveForm s = reserveOf s (headAt s)

@@ -1,4 +1,4 @@
--- Runs of digits: "one or more digits, however many".
+-- R8.3: runs of digits, of any length.
 use Prim.Native.Nat.{ℕ, zero, suc, _+_, _-_, min}
 use mathlib.Core.List.{List}
 use lib.ListN.{length}

@@ -1,4 +1,4 @@
--- Document 01, "The counter and the data cards": what a value needs, the sizes of DC and DS, and refusal 21.
+-- R8.4, R8.5, R8.10, R8.11: what a value needs, the sizes of DC and DS, and refusal 21.
 use Prim.Native.Nat.{ℕ, _+_, _*_, _/_}
 use mathlib.Core.Bool.{Bool}
 use lib.Dec.{ltb, leb}
@@ -9,11 +9,11 @@ use Rattle.data.specs.declared.DataType.{DataType}
 use Rattle.data.specs.declared.DataType.the-variants.{Characters, Hexadecimal, Decimal, Address}
 use Rattle.data.specs.declared.Data.{Data}
 
--- two hex digits to a byte, and an odd one has a byte of its own
+-- R8.8: two hex digits to a byte, and an odd one has a byte of its own
 abbrev pub halfUp : ℕ → ℕ
 halfUp n = (n + 1) / 2
 
--- the bytes that a value of so many characters or digits needs; that of an address is cut or preceded by zeros, and never too long
+-- R8.10: the bytes that a value of so many characters or digits needs; that of an address is never too long
 abbrev pub needed : DataType → ℕ → ℕ
 needed Characters count = count
 needed Hexadecimal count = halfUp count
@@ -23,7 +23,7 @@ needed Address count = 0
 abbrev pub bytesNeeded : Data → ℕ
 bytesNeeded d = needed (d .kind) (d .count)
 
--- "length m (1 to 256)"; for A "m is 1 to 3"
+-- R8.5: the greatest length of each type
 abbrev pub longest : DataType → ℕ
 longest Characters = 256
 longest Hexadecimal = 256
@@ -33,22 +33,22 @@ longest Address = 3
 unfoldable pub lengthFits : Data → Bool
 lengthFits d = both (leb 1 (d .length)) (leb (d .length) (longest (d .kind)))
 
--- n times m
+-- R8.14: n times m
 unfoldable pub dataSize : Data → ℕ
 dataSize d = d .copies * d .length
 
--- DC: m out of range, n over 256, "too long for m, or n times m above 256, is refusal 21"
+-- R8.4, R8.5, R8.10, R8.11: 21 of DC: m out of range, n over 256, a value that needs more than m, n times m over 256
 unfoldable pub constantNo : Data → ℕ
 constantNo d =
     pick (lengthFits d)
     (pick (ltb 256 (d .copies)) 21 (pick (ltb (d .length) (bytesNeeded d)) 21 (pick (ltb 256 (dataSize d)) 21 0)))
     21
 
--- DS: m out of range, or n over 65535
+-- R8.4, R8.5: 21 of DS: m out of range, or n over 65535
 unfoldable pub reserveNo : Data → ℕ
 reserveNo d = pick (lengthFits d) (pick (ltb 65535 (d .copies)) 21 0) 21
 
--- 21 of a DC, or of a DS
+-- R13.4: 21 of a DC, or of a DS
 abbrev pub dataNoBy : DataCard → Data → ℕ
 dataNoBy Constant d = constantNo d
 dataNoBy Reserve d = reserveNo d

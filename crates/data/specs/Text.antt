@@ -1,4 +1,4 @@
--- Document 01, "The counter and the data cards": the text of a constant of type C, X or D.
+-- R8.7 to R8.9: the text of a constant of type C, X or D.
 use Prim.Native.Nat.{ℕ, zero, suc, _+_, _-_, _*_, _/_, _%_}
 use mathlib.Core.List.{List, [], _∷_, _++_}
 use lib.ListN.{getD, replicate}
@@ -24,7 +24,7 @@ nextIn (One code next) at = next
 nextIn (Closed next) at = at
 nextIn (Nothing place) at = at
 
--- "In character data each becomes its EBCDIC code": the codes of n characters from a position on
+-- R2.3: the codes of n characters from a position on
 unfoldable pub codesFrom : ℕ → List ℕ → ℕ → List ℕ
 codesFrom zero s at = []
 codesFrom (suc n) s at = codeIn (quotedAt s at) ∷ codesFrom n s (nextIn (quotedAt s at) at)
@@ -41,19 +41,19 @@ unfoldable pub pairsFrom : ℕ → List ℕ → ℕ → List ℕ
 pairsFrom zero s at = []
 pairsFrom (suc n) s at = pairAt s at ∷ pairsFrom n s (at + 2)
 
--- the bytes of so many hex digits: the first of an odd count has a byte of its own
+-- R8.8: the bytes of so many hex digits: the first of an odd count has a byte of its own
 unfoldable pub hexBytes : ℕ → List ℕ → ℕ → List ℕ
 hexBytes count s at = pick (eqb (count % 2) 0) (pairsFrom (count / 2) s at) (hexAt s at ∷ pairsFrom (count / 2) s (at + 1))
 
--- "C: blanks on the right"
+-- R8.7: type C, filled with blanks behind
 unfoldable pub charactersText : List ℕ → Data → List ℕ
 charactersText s d = codesFrom (d .count) s (d .value) ++ replicate (d .length - d .count) blankCode
 
--- "X: zeros on the left"
+-- R8.8: type X, filled with zeros before
 unfoldable pub hexadecimalText : List ℕ → Data → List ℕ
 hexadecimalText s d = replicate (d .length - halfUp (d .count)) 0 ++ hexBytes (d .count) s (d .value)
 
--- "D: digits only, F0 on the left"
+-- R8.9: type D, filled with F0 before
 unfoldable pub decimalText : List ℕ → Data → List ℕ
 decimalText s d = replicate (d .length - d .count) 0xF0 ++ codesFrom (d .count) s (d .value)
 
@@ -72,6 +72,6 @@ unfoldable pub repeated : ℕ → List ℕ → List ℕ
 repeated zero text = []
 repeated (suc n) text = text ++ repeated n text
 
--- "with copies n"
+-- R8.13: all copies
 unfoldable pub constantText : List ℕ → Data → List ℕ
 constantText s d = repeated (d .copies) (copyText s d)

@@ -1,4 +1,4 @@
--- A card's text as a list of pieces: text and field list are read off the same list.
+-- R9.5, R11.9, R16.9: a card's text as a list of pieces: text and field list are read off the same list.
 use Prim.Native.Nat.{ℕ, zero, suc, _+_, _/_, _%_}
 use mathlib.Core.List.{List, [], _∷_, _++_}
 use lib.Dec.{eqb}
@@ -29,7 +29,7 @@ unfoldable pub textOf : List Piece → List ℕ
 textOf [] = []
 textOf (p ∷ ps) = pieceText p ++ textOf ps
 
--- THE FIELDS: the two-byte fields with a relocatable value, each once, and no other place (demand 3)
+-- R11.9, R16.9, R21.4: THE FIELDS: the two-byte fields with a relocatable value, each once, and no other place
 
 abbrev pub pieceSize : Piece → ℕ
 pieceSize (plain b) = 1
@@ -43,7 +43,7 @@ abbrev pub pieceField : ℕ → Piece → List ℕ → List ℕ
 pieceField at (plain b) os = os
 pieceField at (value v) os = fieldOf at v os
 
--- the offsets of the relocatable values among the pieces from an offset on
+-- R11.10: the offsets of the relocatable values among the pieces from an offset on
 unfoldable pub offsetsFrom : ℕ → List Piece → List ℕ
 offsetsFrom at [] = []
 offsetsFrom at (p ∷ ps) = pieceField at p (offsetsFrom (at + pieceSize p) ps)
@@ -53,17 +53,17 @@ fieldsOf ps = offsetsFrom 0 ps
 
 -- STATEMENTS
 
--- "Each operand has a mode: direct 0, by register 1, by register 2"
+-- R9.8: an operand's mode
 abbrev pub modeOf : Operand → ℕ
 modeOf (Direct v) = 0
 modeOf (Indexed v r displacement) = r
 
--- "Direct takes two bytes, indexed one"; a displacement byte is no field, whatever the kind of its value
+-- R9.6, R11.9: a direct operand is a value of two bytes; the byte of an indexed one is no field, whatever the kind of its value
 abbrev pub operandPieces : Operand → List Piece
 operandPieces (Direct v) = value v ∷ []
 operandPieces (Indexed v r displacement) = plain displacement ∷ []
 
--- an address constant by its length: "The 16-bit value is cut on the left for m = 1 and preceded by a zero byte for m = 3"; m = 2 holds the value itself
+-- R8.12: an address constant by its length: the low byte, the value itself, or the value behind a zero byte
 unfoldable pub addressPieces : ℕ → Value → List Piece
 addressPieces m v =
     pick (eqb m 1) (plain (amountOf v % 256) ∷ [])
@@ -74,7 +74,7 @@ unfoldable pub copied : ℕ → List Piece → List Piece
 copied zero ps = []
 copied (suc n) ps = ps ++ copied n ps
 
--- the operation byte, Q, and the operands in their order; a jump's operation byte, Q and byte; every copy of an address constant
+-- R9.5, R8.13: the operation byte, Q, and the operands in their order; a jump's operation byte, Q and byte; every copy of an address constant
 unfoldable pub piecesOf : Statement → List Piece
 piecesOf (Statement.TwoAddresses op q a b) = plain (operationByte op (modeOf a) (modeOf b)) ∷ plain q ∷ (operandPieces a ++ operandPieces b)
 piecesOf (Statement.OneAddress op q a) = plain (operationByte op (modeOf a) (modeOf a)) ∷ plain q ∷ operandPieces a

@@ -1,2 +1,4 @@
 -- The examples, proved.
 pub mod Proved
+pub mod WrongLoads
+pub mod WrongReaders

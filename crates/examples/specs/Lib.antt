@@ -1,1 +1,4 @@
 pub mod Table
+pub mod Sample
+pub mod WrongLoads
+pub mod WrongReaders

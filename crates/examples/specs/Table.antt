@@ -1,4 +1,4 @@
--- Document 01, "Examples, [P] to be proved": one table of rows, each with what is written, the names, and what must come of it.
+-- R20.1: one table of rows, each with what is written, the names, and what must come of it.
 use Prim.Native.Nat.{ℕ, _-_}
 use Prim.Native.String.{String}
 use mathlib.Core.List.{List, [], _∷_, _++_, map}
@@ -14,7 +14,7 @@ use Rattle.names.specs.declared.Name.{Name}
 use Rattle.names.specs.Names.{find}
 use Rattle.expressions.specs.declared.form.Form.{Form}
 use Rattle.expressions.specs.declared.form.Form.the-variants.{Ends, Fails}
-use Rattle.expressions.specs.declared.Wanted.the-variants.{Any}
+use Rattle.values.specs.declared.Wanted.the-variants.{Any}
 use Rattle.expressions.specs.declared.Evaluated.{Evaluated}
 use Rattle.expressions.specs.declared.Evaluated.the-variants.{Good, Malformed, Undefined, WrongKind, OutOfRange}
 use Rattle.expressions.specs.Form.{formOf, formNo, expressionAt}

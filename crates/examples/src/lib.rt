@@ -1,1 +1,1 @@
-// The examples of document 01 that are to be proved: no code, one table in specs/ and its proof.
+// R20.1, the examples that are proved: no code, one table in specs/ and its proof.

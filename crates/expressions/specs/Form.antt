@@ -1,4 +1,4 @@
--- Document 01, "Terms and expressions": the form of an expression, from the columns alone. A term that is none, and with it refusal 15, has its position.
+-- R6.1, R6.2: the form of an expression, from the columns alone. A term that is none, and with it refusal 15, has its position.
 use Prim.Native.Nat.{ℕ, zero, suc, _+_}
 use mathlib.Core.List.{List, [], _∷_}
 use mathlib.Core.Bool.{Bool, false}
@@ -35,7 +35,7 @@ abbrev pub formOf : {X : Type 0} → Read X → Form
 formOf (upTo x q) = Ends q
 formOf (fails q) = Fails q
 
--- 15: "operand not of its form"
+-- R14.1: 15, not of the form
 abbrev pub formNo : Form → ℕ
 formNo (Ends q) = 0
 formNo (Fails q) = 15
@@ -60,7 +60,7 @@ onto x (fails q) = fails q
 abbrev pub placedAt : List ℕ → ℕ → Placed
 placedAt s at = record { at = at; term = termAt s at }
 
--- a `*` with a term behind it, as often as that stands there; n bounds how often
+-- R6.2: a `*` with a term behind it, as often as that stands there; n bounds how often
 unfoldable pub factorsFrom : ℕ → List ℕ → ℕ → Read (List Placed)
 factorsFrom zero s q = fails q
 factorsFrom (suc n) s q =
@@ -76,7 +76,7 @@ abbrev pub ontoFactors : Placed → Read (List Placed) → Read (Product Placed)
 ontoFactors x (upTo xs q) = upTo (record { first = x; others = xs }) q
 ontoFactors x (fails q) = fails q
 
--- a product: a term, and the factors behind it
+-- R6.3: a product: a term, and the factors behind it
 unfoldable pub productAt : List ℕ → ℕ → Read (Product Placed)
 productAt s p = behind (endOf (termAt s p)) (λ q. ontoFactors (placedAt s p) (factorsAt s q))
 
@@ -88,7 +88,7 @@ abbrev pub ontoProducts : Bool → Read (Product Placed) → (ℕ → Read (List
 ontoProducts minus (upTo x q) on = onto (record { minus = minus; product = x }) (on q)
 ontoProducts minus (fails q) on = fails q
 
--- "terms joined by + - *, no blanks, parentheses or leading sign": a product, and while + or - follows, that sign and a product; n bounds how many
+-- R6.1: a product, and while + or - follows, that sign and a product; n bounds how many
 unfoldable pub productsFrom : ℕ → Bool → List ℕ → ℕ → Read (List (Addend Placed))
 productsFrom zero minus s p = fails p
 productsFrom (suc n) minus s p =

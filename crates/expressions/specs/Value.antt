@@ -1,4 +1,4 @@
--- Document 01, "Terms and expressions": the value of an expression, over what the names say (look) and the counter at the start of the card (here).
+-- R6.3 to R6.11: the value of an expression, over what the names say (look) and the counter at the start of the card (here).
 use Prim.Native.Nat.{ℕ, _+_, _-_, _*_, _%_}
 use mathlib.Core.List.{List, [], _∷_, map}
 use mathlib.Core.Bool.{Bool, true, false}
@@ -33,7 +33,7 @@ abbrev pub meaningFactor : Meaning → Factor
 meaningFactor (Known v l) = valueFactor v
 meaningFactor Unknown = record { value = 0; relocatable = false; undefined = true }
 
--- what a term stands for. "`*` in a term's place: relocatable, the counter at the start of the card"
+-- R5.2 to R5.7: what a term stands for; `*` is the counter, and relocatable
 abbrev pub factorOf : (ℕ → Meaning) → ℕ → Term → Factor
 factorOf look here (Number v q) = record { value = v; relocatable = false; undefined = false }
 factorOf look here (Symbol k q) = meaningFactor (look k)
@@ -56,7 +56,7 @@ unfoldable pub times : ℕ → List Factor → ℕ
 times v [] = v
 times v (f ∷ fs) = times (v * f .value) fs
 
--- "every partial product must lie in -16777216..16777215"; none is negative
+-- R6.6: a product on the way is out of range; none is negative
 unfoldable pub timesOut : ℕ → List Factor → Bool
 timesOut v [] = false
 timesOut v (f ∷ fs) = either (ltb 16777215 (v * f .value)) (timesOut (v * f .value) fs)
@@ -69,7 +69,7 @@ unfoldable pub anyUndefined : List Factor → Bool
 anyUndefined [] = false
 anyUndefined (f ∷ fs) = either (f .undefined) (anyUndefined fs)
 
--- "a relocatable factor": in a product of at least two
+-- R6.4: a relocatable term in a product of two or more
 abbrev pub mixedWith : Factor → List Factor → Bool
 mixedWith f [] = false
 mixedWith f (g ∷ gs) = anyRelocatable (f ∷ g ∷ gs)
@@ -118,7 +118,7 @@ unfoldable pub subtracted : List (Addend Factor) → ℕ
 subtracted [] = 0
 subtracted (x ∷ xs) = ifMinus (x .minus) (worth (x .product)) + subtracted xs
 
--- "relocatable terms after plus (or first)", and "those after minus"
+-- R6.5: how many relocatable terms are added, and how many subtracted
 unfoldable pub afterPlus : List (Addend Factor) → ℕ
 afterPlus [] = 0
 afterPlus (x ∷ xs) = ifPlus (x .minus) (counted (alone (x .product))) + afterPlus xs
@@ -127,11 +127,11 @@ unfoldable pub afterMinus : List (Addend Factor) → ℕ
 afterMinus [] = 0
 afterMinus (x ∷ xs) = ifMinus (x .minus) (counted (alone (x .product))) + afterMinus xs
 
--- "every partial sum must lie in -16777216..16777215": p was added, m subtracted
+-- R6.6: a sum on the way is out of range: p was added, m subtracted
 abbrev pub sumOut : ℕ → ℕ → Bool
 sumOut p m = either (ltb (p + 16777216) m) (ltb (m + 16777215) p)
 
--- a partial product or partial sum out of range, left to right, behind a sum in which p was added and m subtracted
+-- R6.6: a product or sum on the way is out of range, left to right, behind a sum in which p was added and m subtracted
 unfoldable pub anyOut : ℕ → ℕ → List (Addend Factor) → Bool
 anyOut p m [] = false
 anyOut p m (x ∷ xs) =
@@ -139,12 +139,12 @@ anyOut p m (x ∷ xs) =
     (either (sumOut (p + ifPlus (x .minus) (worth (x .product))) (m + ifMinus (x .minus) (worth (x .product))))
     (anyOut (p + ifPlus (x .minus) (worth (x .product))) (m + ifMinus (x .minus) (worth (x .product))) xs))
 
--- 19: a relocatable factor somewhere
+-- R6.4: 19, a relocatable factor somewhere
 unfoldable pub anyMixed : List (Addend Factor) → Bool
 anyMixed [] = false
 anyMixed (x ∷ xs) = either (mixed (x .product)) (anyMixed xs)
 
--- 18: a name that is not defined somewhere
+-- R5.6: 18, a name that is not defined somewhere
 unfoldable pub anyUnknown : List (Addend Factor) → Bool
 anyUnknown [] = false
 anyUnknown (x ∷ xs) = either (undefinedIn (x .product)) (anyUnknown xs)
@@ -172,27 +172,27 @@ sumOf xs = record {
 
 -- THE VALUE
 
--- "the final value in -65536..65535. An absolute result is then taken modulo 65536"
+-- R6.7, R6.8: the range of an absolute sum, and then modulo 65536
 abbrev pub absoluteOf : Sum → Evaluated
 absoluteOf s =
     pick (either (s .out) (either (ltb (s .added + 65536) (s .subtracted)) (ltb (s .subtracted + 65535) (s .added))))
     (OutOfRange Kind.Absolute)
     (Good (Absolute (record { 0 = (s .added + 65536 - s .subtracted) % 65536 })))
 
--- "A relocatable result must be 0 to 65535"
+-- R6.9: the range of a relocatable sum
 abbrev pub relocatableOf : Sum → Evaluated
 relocatableOf s =
     pick (either (s .out) (either (ltb (s .added) (s .subtracted)) (ltb (s .subtracted + 65535) (s .added))))
     (OutOfRange Kind.Relocatable)
     (Good (Relocatable (record { 0 = s .added - s .subtracted })))
 
--- "Relocatable terms after plus (or first) minus those after minus: 0 is absolute, 1 is relocatable, anything else is 19"
+-- R6.5: the kind by what is left of the relocatable terms: none, one, or 19
 abbrev pub byKind : Sum → Evaluated
 byKind s =
     pick (eqb (s .afterPlus) (s .afterMinus)) (absoluteOf s)
     (pick (eqb (s .afterPlus) (s .afterMinus + 1)) (relocatableOf s) WrongKind)
 
--- "18 before 19 before 20", whatever their order in the text
+-- R6.11: 18, then 19, then 20, whatever their order in the text
 unfoldable pub valueOf : Sum → Evaluated
 valueOf s = pick (s .undefined) Undefined (pick (s .mixed) WrongKind (byKind s))
 
@@ -220,7 +220,7 @@ suits Any k = true
 suits OnlyAbsolute k = isAbsolute k
 suits OnlyRelocatable k = isRelocatable k
 
--- the refusal of an expression where a kind is wanted: a wrong kind goes before a value out of range
+-- R6.10, R6.11: the refusal of an expression where a kind is wanted: a wrong kind goes before a value out of range
 abbrev pub refusalFor : Wanted → Evaluated → ℕ
 refusalFor w (Good v) = pick (suits w (kindOf v)) 0 19
 refusalFor w Malformed = 15
@@ -244,7 +244,7 @@ absoluteIn e = onlyAbsolute (valueIn e)
 abbrev pub relocatableIn : Evaluated → MaybeRelocatable
 relocatableIn e = onlyRelocatable (valueIn e)
 
--- "Implied length: that of the first term if a symbol, else 1"
+-- R10.8: the length that a first term implies
 abbrev pub meaningLength : Meaning → ℕ
 meaningLength (Known v l) = l
 meaningLength Unknown = 1

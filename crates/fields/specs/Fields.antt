@@ -1,4 +1,4 @@
--- The listed fields of a record's text, moved by a displacement (document 01, "Loading takes records in order").
+-- R17.2, R17.6: the listed fields of a record's text, moved by a displacement.
 use Prim.Native.Nat.{ℕ}
 use mathlib.Core.List.{List, [], _∷_}
 use mathlib.Core.Bool.{Bool, true, false}
@@ -21,12 +21,12 @@ abbrev pub withField : Moved → ℕ → List ℕ → List ℕ
 withField (To v) o t = sets t o (twoBytes (v .0))
 withField Over o t = t
 
--- a text t in which each listed field gets its value in the text as it was, `was`, moved by d
+-- R17.2: a text t in which each listed field gets its value in the text as it was, `was`, moved by d
 unfoldable pub movedIn : Displacement → List ℕ → List ℕ → List ℕ → List ℕ
 movedIn d was [] t = t
 movedIn d was (o ∷ os) t = movedIn d was os (withField (movedBy d (fieldIn was o)) o t)
 
--- a record's text with its listed fields moved by d
+-- R17.2: a record's text with its listed fields moved by d
 abbrev pub movedText : Displacement → Record → List ℕ
 movedText d r = movedIn d (r .text) (r .fields) (r .text)
 
@@ -34,7 +34,7 @@ abbrev pub isOver : Moved → Bool
 isOver (To v) = false
 isOver Over = true
 
--- 52: a listed field, moved by d, is over
+-- R17.6: 52, a listed field, moved by d, is over
 unfoldable pub overIn : Displacement → List ℕ → List ℕ → Bool
 overIn d text [] = false
 overIn d text (o ∷ os) = either (isOver (movedBy d (fieldIn text o))) (overIn d text os)

@@ -38,9 +38,8 @@ pub fn over_field(book: &[u8], p: Place, d: Displacement) -> bool
     requires { ⌜ Sound (now book) p ⌝ }
     ensures { λ r. ⌜ r ≡ overField d (recordThere (now (book .entry)) p) ⌝ }
 {
-    let count = p.count;
     let mut i = 0;
-    while i < count {
+    while i < p.count {
         let offset = offset_at(book, p, i);
         match moved_field(book, p, offset, d) {
             Moved::Over => {

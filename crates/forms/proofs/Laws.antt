@@ -201,7 +201,7 @@ shape-in op o = pattern-in (patternOf op) o
 
 -- LENGTHS
 
--- ZAZ, AZ and SZ: on each; "L on one operand"; MVX: "on exactly one operand"; extended moves: none
+-- R9.2: on each of ZAZ, AZ and SZ; on one at most; of MVX on exactly one; of extended moves on none
 abbrev pub LengthsAllowed : Lengths → ℕ → ℕ → Type 0
 LengthsAllowed OnEach m n = (m ≤ 1) × (n ≤ 1)
 LengthsAllowed OnOne m n = m + n ≤ 1
@@ -256,7 +256,7 @@ two-lengths k o = first (addressAt (firstAllowed k) o 0) (address-in (firstAllow
 
 -- SIZES
 
--- "Direct takes two bytes, indexed one"
+-- R9.6: two bytes where direct, one where indexed
 pub address-size : (r : Item) → (1 ≤ addressSize r) × (addressSize r ≤ 2)
 address-size Absent = (omega arith, omega arith)
 address-size (At p) = (omega arith, omega arith)

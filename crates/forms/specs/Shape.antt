@@ -1,4 +1,4 @@
--- Document 01: how the operand of each operation is written, from its columns alone. One that fails, refusal 15, says the first position at which no operand of its form could go on.
+-- R7.4 to R7.6, R9.1 to R9.4, R12.1: how the operand of each operation is written, from its columns alone. One that fails, refusal 15, says the first position at which no operand of its form could go on.
 use Prim.Native.Nat.{ℕ, _+_}
 use mathlib.Core.List.{List}
 use mathlib.Core.Bool.{Bool}
@@ -32,7 +32,7 @@ use Rattle.addresses.specs.declared.Addressed.{Addressed}
 use Rattle.addresses.specs.declared.Addressed.the-variants.{Reads, Stops}
 use Rattle.addresses.specs.Address.{addressAt}
 
--- the operand ends here; anything that stands here is no part of it
+-- R9.4: the operand ends here; anything that stands here is no part of it
 unfoldable pub ended : List ℕ → ℕ → Shape → Shape
 ended o q x = pick (ltb q (length o)) (Fails q) x
 
@@ -56,7 +56,7 @@ lastAt o p x = behindForm (formOf (expressionAt o p)) (λ q. ended o q x)
 abbrev pub isAbsent : List ℕ → Bool
 isAbsent o = eqb (length o) 0
 
--- START: "Its operand is one decimal or hex term, or absent for 0"
+-- R7.4: START's operand, one decimal or hex term, or none
 unfoldable pub startTerm : List ℕ → Term
 startTerm o = pick (stands "X" o 0) (pick (stands "'" o 1) (hexAt o 0) (Bad 1)) (decimalAt o 0)
 
@@ -69,15 +69,15 @@ startOf o (Bad q) = Fails q
 unfoldable pub startShape : List ℕ → Shape
 startShape o = pick (isAbsent o) (StartAt 0) (startOf o (startTerm o))
 
--- "END takes a relocatable operand (the entry) or none"
+-- R12.1, R12.2: END's operand, the entry, or none
 unfoldable pub endShape : List ℕ → Shape
 endShape o = pick (isAbsent o) Nothing (lastAt o 0 Expression)
 
--- USING E,R and JC "E,Q"
+-- R9.1: USING's E,R and JC's E,Q
 unfoldable pub pairShape : List ℕ → Shape
 pairShape o = behindForm (formOf (expressionAt o 0)) (λ q. behindComma o q (λ p. lastAt o p (Pair p)))
 
--- "A length on both operands where one is allowed, or MVX's item on neither or both, is 15": what the second address may have behind the first one's length
+-- R9.2: what the second address may have behind the first one's length
 abbrev pub unlessThere : Item → Allowed → Allowed
 unlessThere Absent w = w
 unlessThere (At p) w = NoLength
@@ -94,24 +94,24 @@ secondAllowed OnOne l = unlessThere l MayHaveLength
 secondAllowed OnExactlyOne l = unlessThere l HasLength
 secondAllowed OnNone l = NoLength
 
--- the second address of two, and the end of the operand
+-- R9.1: the second address of two, and the end of the operand
 unfoldable pub twoOf : List ℕ → Address → ℕ → Allowed → Shape
 twoOf o a p w = behindAddressed (addressAt w o p) (λ b q. ended o q (TwoAddresses a b))
 
--- two address
+-- R9.1: two addresses
 unfoldable pub twoShape : Lengths → List ℕ → Shape
 twoShape k o =
     behindAddressed (addressAt (firstAllowed k) o 0) (λ a q. behindComma o q (λ p. twoOf o a p (secondAllowed k (a .length))))
 
--- one address: "E,Q with E, E(R) or E(,R)"; a branch "as one address"
+-- R9.1: one address, or a branch, and Q
 unfoldable pub oneShape : List ℕ → Shape
 oneShape o = behindAddressed (addressAt OnlyRegister o 0) (λ a q. behindComma o q (λ p. lastAt o p (AddressAndCode a p)))
 
--- "Extended branches, jumps and moves .. drop that operand or item"
+-- R9.1: an extended branch, without Q
 unfoldable pub onlyShape : List ℕ → Shape
 onlyShape o = behindAddressed (addressAt OnlyRegister o 0) (λ a q. ended o q (LoneAddress a))
 
--- DC and DS
+-- R8.1, R8.2: DC and DS
 abbrev pub behindData : DataForm → Shape
 behindData (Of d) = Data d
 behindData (DataFails q) = Fails q
@@ -122,7 +122,7 @@ constantShape o = behindData (constantForm o)
 unfoldable pub reserveShape : List ℕ → Shape
 reserveShape o = behindData (reserveForm o)
 
--- the shape of an operand by the way it is to be written
+-- R9.1, R7.4 to R7.6, R8.1, R8.2, R12.1: the shape of an operand by the way it is to be written; of no operation it fails at once
 abbrev pub shapeBy : Pattern → List ℕ → Shape
 shapeBy Pattern.Unreadable o = Fails 0
 shapeBy Pattern.StartTerm o = startShape o

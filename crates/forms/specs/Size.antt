@@ -1,4 +1,4 @@
--- Document 01, "Instructions": the bytes of a card, by its form.
+-- R9.5, R9.6, R8.14: the bytes of a card, by its form.
 use Prim.Native.Nat.{ℕ, _+_}
 use Rattle.operations.specs.declared.Operation.{Operation}
 use Rattle.operations.specs.Traits.{fixedSize}
@@ -8,12 +8,12 @@ use Rattle.addresses.specs.declared.Item.the-variants.{Absent, At}
 use Rattle.forms.specs.declared.Shape.{Shape}
 use Rattle.forms.specs.declared.Shape.the-variants.{Fails, Nothing, StartAt, Expression, Pair, Target, TwoAddresses, AddressAndCode, LoneAddress, Data}
 
--- "Direct takes two bytes, indexed one": an address by its register
+-- R9.6: the bytes of an address, by its register
 abbrev pub addressSize : Item → ℕ
 addressSize Absent = 2
 addressSize (At p) = 1
 
--- what is fixed of the operation, and the addresses; all copies of DC and DS
+-- R9.5, R8.14: what is fixed of the operation, and its addresses; all copies of DC and DS; nothing for the other cards
 abbrev pub sizeOf : Operation → Shape → ℕ
 sizeOf op (Fails q) = 0
 sizeOf op Nothing = 0

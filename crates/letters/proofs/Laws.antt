@@ -1,4 +1,4 @@
--- The table and the classes are those of document 01, by one computed test over all 256 bytes; and what readers of columns cite.
+-- The table and the classes are those of R2.2 and R2.3, by one computed test over all 256 bytes; and what readers of columns cite.
 use Prim.Native.Nat.{ℕ, zero, suc, _+_, _-_, _≤_, _<_}
 use Prim.Native.String.{String, [] as none, _∷_ as _then_}
 use mathlib.Core.List.{List, [], _∷_}
@@ -17,7 +17,7 @@ use Rattle.letters.specs.declared.Class.{Class}
 use Rattle.letters.specs.declared.Class.the-variants.{Letter, Digit, Sign, Blank, Refused}
 use Rattle.letters.specs.declared.Pair.{Pair}
 use Rattle.letters.proofs.Every.{every, at}
-use Rattle.values.proofs.Laws.{both-true}
+use Rattle.values.proofs.Laws.{both-true, clash}
 
 -- CLASSES
 
@@ -78,7 +78,7 @@ once b = pick (isAccepted (classOf b)) 1 0
 abbrev pub agrees : ℕ → Bool
 agrees b = pick (isAccepted (classOf b)) (ltb 0 (codeOf b)) (eqb (codeOf b) 0)
 
--- each accepted byte stands in the table once and no other does, as in document 01's list; its code is that of the list, wherever it is looked for
+-- R2.3: each accepted byte stands in the table once and no other does, as in the list; its code is that of the list, wherever it is looked for
 unfoldable pub right : ℕ → Bool
 right b =
     both (eqb (times table b) (once b))
@@ -136,7 +136,7 @@ inside s i n = elim (decLe (length s) i) [ yes past ↦ absurd (n (List·getD-eq
 pub inside-accepted : (s : List ℕ) (i : ℕ) → isAccepted (classOf (getD s i 0)) ≡ true → i < length s
 inside-accepted s i e =
     inside s i
-    (λ z. let f : isAccepted Refused ≡ true = ap isAccepted (sym (ap classOf z ∙ class-zero)) ∙ e in let q : _≡_ {A = ℕ} 0 1 = cc in omega arith)
+    (λ z. let f : isAccepted Refused ≡ true = ap isAccepted (sym (ap classOf z ∙ class-zero)) ∙ e in clash (cc))
 
 pub inside-digit : (s : List ℕ) (i : ℕ) → digitOf (getD s i 0) < 16 → i < length s
 unfolding digitOf isFromTo
@@ -208,6 +208,6 @@ class-past b h =
 pub code-positive : (b : ℕ) → isAccepted (classOf b) ≡ true → 0 < codeOf b
 code-positive b e =
     elim (decLe 125 b) [
-      | yes past ↦ let f : isAccepted Refused ≡ true = ap isAccepted (sym (class-past b past)) ∙ e in let q : _≡_ {A = ℕ} 0 1 = cc in absurd (omega arith)
+      | yes past ↦ let f : isAccepted Refused ≡ true = ap isAccepted (sym (class-past b past)) ∙ e in clash (cc)
       | no within ↦ ltb-true 0 (codeOf b) (rw e at (class-agrees b (omega arith)))
     ]

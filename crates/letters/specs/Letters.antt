@@ -1,4 +1,4 @@
--- Document 01, "Cards": the accepted characters, their classes and their EBCDIC codes.
+-- R2.2, R2.3: the accepted characters, their classes and their EBCDIC codes.
 use Prim.Native.Nat.{ℕ, suc, _+_, _-_}
 use Prim.Native.Char.{Char}
 use Prim.Native.String.{String, [] as none, _∷_ as _then_}
@@ -11,7 +11,7 @@ use Rattle.letters.specs.declared.Class.{Class}
 use Rattle.letters.specs.declared.Class.the-variants.{Letter, Digit, Sign, Blank, Refused}
 use Rattle.letters.specs.declared.Pair.{Pair}
 
--- "letters A to Z, digits, blank, and . < ( + ..": $ # @ stand with the letters, since a name may have them wherever it has a letter
+-- R2.2: the class of a byte; $ # @ stand with the letters, since a name may have them wherever it has a letter
 unfoldable pub classOf : ℕ → Class
 classOf b =
     pick (isFromTo "A" "Z" b) Letter
@@ -19,7 +19,7 @@ classOf b =
     (pick (isFromTo "0" "9" b) Digit
     (pick (is " " b) Blank (pick (isOneOf ".<(+|&!*);-/,%_>?:'=\"" b) Sign Refused))))
 
--- "A name starts with a letter or $ # @"
+-- R3.1: what a name may start with
 abbrev pub startsName : Class → Bool
 startsName Letter = true
 startsName Digit = false
@@ -27,7 +27,7 @@ startsName Sign = false
 startsName Blank = false
 startsName Refused = false
 
--- ".. and continues with these or digits"
+-- R3.1: what may follow in a name
 abbrev pub goesOnName : Class → Bool
 goesOnName Letter = true
 goesOnName Digit = true
@@ -42,7 +42,7 @@ isBlank Sign = false
 isBlank Blank = true
 isBlank Refused = false
 
--- an accepted byte
+-- R2.2: an accepted byte
 abbrev pub isAccepted : Class → Bool
 isAccepted Letter = true
 isAccepted Digit = true
@@ -63,7 +63,7 @@ codedFrom (c then s) n others = coded c n ∷ codedFrom s (n + 1) others
 abbrev pub blankCode : ℕ
 blankCode = 0x40
 
--- "In character data each becomes its EBCDIC code (code page 037)": the list of document 01, in its order
+-- R2.3: the characters and their EBCDIC codes (code page 037), in the order of the codes
 unfoldable pub listed : List Pair
 listed =
     coded " " blankCode ∷ coded "." 0x4B ∷ coded "<" 0x4C ∷ coded "(" 0x4D ∷ coded "+" 0x4E ∷ coded "|" 0x4F ∷ coded "&" 0x50
@@ -77,7 +77,7 @@ unfoldable pub codeIn : List Pair → ℕ → ℕ
 codeIn [] b = 0
 codeIn (p ∷ ps) b = pick (eqb (p .0) b) (p .1) (codeIn ps b)
 
--- a byte's EBCDIC code; 0 where it is not accepted
+-- R2.3: a byte's EBCDIC code; 0 where it is not accepted
 unfoldable pub codeOf : ℕ → ℕ
 codeOf b = codeIn listed b
 

@@ -1,6 +1,6 @@
 -- What callers cite of a line: its operand lies inside the columns, its name's number has six bytes, and its shape is its operation's.
 use Prim.{Unit, tt}
-use Prim.Native.Nat.{ℕ, _-_, _≤_, _<_}
+use Prim.Native.Nat.{ℕ, _-_, _≤_, _<_, _^_}
 use mathlib.Core.List.{List}
 use mathlib.Core.Bool.{Bool, true, false}
 use mathlib.Core.Path.{_≡_, sym, _∙_, subst}
@@ -28,7 +28,7 @@ module _ (s : List ℕ) where
   pub record LineWithin (l : Line) : Type 0 where
     pub operand : l .operand ≤ l .end
     pub end : l .end ≤ length s
-    pub name : l .name < 281474976710656
+    pub name : l .name < 2 ^ 48
 
   abbrev pub ReadingWithin : Reading → Type 0
   ReadingWithin Comment = Unit {0}
@@ -38,7 +38,7 @@ module _ (s : List ℕ) where
   abbrev NameBelow : Card → Type 0
   NameBelow CardComment = Unit {0}
   NameBelow CardBadName = Unit {0}
-  NameBelow (CardStatement f) = f .name < 281474976710656
+  NameBelow (CardStatement f) = f .name < 2 ^ 48
 
   name-below : NameBelow (cardOf s)
   unfolding cardOf fieldsBehind

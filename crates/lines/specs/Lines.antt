@@ -1,4 +1,4 @@
--- A card by its statement columns: a comment, a bad name, or a line with its name, its operation and the shape of its operand.
+-- R2.4 to R2.6, R4.1, R9.1: a card by its statement columns: a comment, a bad name, or a line with its name, its operation and the shape of its operand.
 use Prim.Native.Nat.{ℕ, _-_}
 use mathlib.Core.List.{List}
 use Rattle.values.specs.Words.{part}
@@ -39,7 +39,7 @@ readingOf s = readingFrom s (cardOf s)
 abbrev pub operandColumns : List ℕ → Line → List ℕ
 operandColumns s l = part s (l .operand) (l .end - l .operand)
 
--- 15: "operand not of its form"
+-- R14.1: 15, not of the form
 abbrev pub shapeNo : Shape → ℕ
 shapeNo (Fails q) = 15
 shapeNo Nothing = 0

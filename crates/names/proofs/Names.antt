@@ -7,7 +7,7 @@ use native.Mathlib.Omega.{arith}
 use lib.ListN.{length, getD, take, drop, length-map}
 use lib.Dec.{ltb, eqb}
 use borrow.Author.Tests.{ltb-true, ltb-false, eqb-true, eqb-false, eq-eqb, ne-eqb, lt-ltb, le-ltb}
-use Rattle.values.specs.Tests.{pick, both}
+use Rattle.values.specs.Tests.{pick}
 use Rattle.values.proofs.Laws.{clash, both-true}
 use Rattle.names.specs.declared.Name.{Name}
 use Rattle.names.specs.declared.Meaning.{Meaning}

@@ -1,5 +1,5 @@
 -- Laws of the table: its records as a list, the place of a number, a record more, zeroing.
-use Prim.Native.Nat.{ℕ, zero, suc, _+_, _-_, _*_, _/_, _%_, _≤_, _<_}
+use Prim.Native.Nat.{ℕ, zero, suc, _+_, _-_, _*_, _/_, _%_, _≤_, _<_, _^_}
 use mathlib.Core.List.{List, [], _∷_, _++_, append-assoc}
 use mathlib.Core.Bool.{true}
 use mathlib.Core.Path.{_≡_, refl, sym, ap, _∙_}
@@ -173,19 +173,19 @@ value-back (Absolute v) a e = ap (λ (n : ℕ). Absolute (record { 0 = n })) e
 value-back (Relocatable v) a e = ap (λ (n : ℕ). Relocatable (record { 0 = n })) e
 
 -- six bytes of a number below 2 ^ 48 give it back
-six-back : (n : ℕ) → n < 281474976710656
-    → ((((n / 1099511627776 % 256 * 256 + n / 4294967296 % 256) * 256 + n / 16777216 % 256) * 256 + n / 65536 % 256) * 256 + n / 256 % 256) * 256 + n % 256 ≡ n
+six-back : (n : ℕ) → n < 2 ^ 48
+    → ((((n / 2 ^ 40 % 256 * 256 + n / 2 ^ 32 % 256) * 256 + n / 16777216 % 256) * 256 + n / 65536 % 256) * 256 + n / 256 % 256) * 256 + n % 256 ≡ n
 six-back n h =
-    let a : n / 1099511627776 % 256 ≡ n / 1099511627776 = omega arith in
-    let b : n / 1099511627776 * 256 + n / 4294967296 % 256 ≡ n / 4294967296 = omega arith in
-    let c : n / 4294967296 * 256 + n / 16777216 % 256 ≡ n / 16777216 = omega arith in
+    let a : n / 2 ^ 40 % 256 ≡ n / 2 ^ 40 = omega arith in
+    let b : n / 2 ^ 40 * 256 + n / 2 ^ 32 % 256 ≡ n / 2 ^ 32 = omega arith in
+    let c : n / 2 ^ 32 * 256 + n / 16777216 % 256 ≡ n / 16777216 = omega arith in
     let d : n / 16777216 * 256 + n / 65536 % 256 ≡ n / 65536 = omega arith in
     let e : n / 65536 * 256 + n / 256 % 256 ≡ n / 256 = omega arith in
     let f : n / 256 * 256 + n % 256 ≡ n = omega arith in
     rw (a, b, c, d, e, f)
 
 -- a record read back is the name that was written
-record-back : (u : List ℕ) (p : ℕ) (x : Name) → x .number < 281474976710656 → amountOf (x .value) < 65536 → x .length < 65536
+record-back : (u : List ℕ) (p : ℕ) (x : Name) → x .number < 2 ^ 48 → amountOf (x .value) < 65536 → x .length < 65536
     → ((k : ℕ) → k < 16 → getD u (p + k) 0 ≡ getD (nameBytes x) k 0) → nameAt u p ≡ x
 unfolding numberAt word nameBytes
 record-back u p x a b c h =
@@ -202,7 +202,7 @@ unfolding nameBytes
 name-long x = refl
 
 -- the table after a name is defined: the names above it one record up, it in its place, all behind the records as before
-module _ (n : ℕ) (t : List ℕ) (x : Name) (fits : 16 * n + 16 ≤ length t) (small : x .number < 281474976710656) (amount : amountOf (x .value) < 65536) (short : x .length < 65536) where
+module _ (n : ℕ) (t : List ℕ) (x : Name) (fits : 16 * n + 16 ≤ length t) (small : x .number < 2 ^ 48) (amount : amountOf (x .value) < 65536) (short : x .length < 65536) where
   pub names-defined : (i : ℕ) → i ≡ below (x .number) (namesIn n t)
       → namesIn (n + 1) (sets (shifted (16 * i) (16 * n) t) (16 * i) (nameBytes x)) ≡ defined x (namesIn n t)
   unfolding namesIn namesFrom

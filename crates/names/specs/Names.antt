@@ -1,4 +1,4 @@
--- Names: what each stands for, a name more, and refusals 16 and 17. A name is a number, its six EBCDIC bytes in base 256.
+-- R3.3, R3.4, R3.6: what each name stands for, a name more, and refusals 16 and 17. A name is a number, its six EBCDIC bytes in base 256.
 use Prim.Native.Nat.{ℕ}
 use mathlib.Core.List.{List, [], _∷_}
 use mathlib.Core.Bool.{Bool, true}
@@ -29,7 +29,7 @@ unfoldable pub ascending : List Name → Bool
 ascending [] = true
 ascending (x ∷ xs) = above (x .number) xs
 
--- 16: already defined; 17: over the limit of names
+-- R3.3, R3.4: 16, defined before; 17, over the limit of names
 abbrev pub refusalOf : ℕ → ℕ → Meaning → ℕ
 refusalOf limit count (Known v l) = 16
 refusalOf limit count Unknown = pick (ltb count limit) 0 17

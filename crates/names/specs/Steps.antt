@@ -1,5 +1,5 @@
 -- What the table's own functions do with its bytes.
-use Prim.Native.Nat.{ℕ, suc, _+_, _-_, _*_, _/_, _%_}
+use Prim.Native.Nat.{ℕ, suc, _+_, _-_, _*_, _/_, _%_, _^_}
 use mathlib.Core.List.{List, [], _∷_, _++_}
 use lib.ListN.{take, drop}
 use lib.Dec.{ltb}
@@ -23,10 +23,10 @@ shifted from to t = take (from + 16) t ++ (part t from (to - from) ++ drop (to +
 unfoldable pub nameBytes : Name → List ℕ
 nameBytes x =
     1
-    ∷ x .number / 1099511627776 % 256
-    ∷ x .number / 4294967296 % 256
-    ∷ x .number / 16777216 % 256
-    ∷ x .number / 65536 % 256
+    ∷ x .number / 2 ^ 40 % 256
+    ∷ x .number / 2 ^ 32 % 256
+    ∷ x .number / 2 ^ 24 % 256
+    ∷ x .number / 2 ^ 16 % 256
     ∷ x .number / 256 % 256
     ∷ x .number % 256
     ∷ kindOf (x .value)

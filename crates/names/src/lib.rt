@@ -9,13 +9,22 @@ use values::words::wide;
 use values::words::word_at;
 ghost use mathlib.Core.Path.{_≡_};
 ghost use mathlib.Core.Bool.{true};
-ghost use Prim.Native.Nat.{_+_, _*_, _≤_, _<_};
+ghost use Prim.Native.Nat.{_+_, _*_, _≤_, _<_, _^_};
 ghost use lib.ListN.{length, drop};
 ghost use lib.Seq.{sets};
 ghost use Rattle.values.specs.Values.{amountOf};
 ghost use Rattle.names.specs.Names.{find, defined, ascending, nameRefusal};
 ghost use Rattle.names.specs.Table.{valueOf, kindOf, numberAt, meaningAt, namesIn, zeroed};
 ghost use Rattle.names.specs.Steps.{below, shifted, nameBytes, put};
+
+// The weights of the higher bytes of a name's number.
+const TWO_40: u64 = 1099511627776;
+
+const TWO_32: u64 = 4294967296;
+
+const TWO_24: u64 = 16777216;
+
+const TWO_16: u64 = 65536;
 
 // A name: its number (six EBCDIC bytes, base 256), what it stands for, its length.
 pub struct Name {
@@ -126,10 +135,10 @@ fn put_name(t: &mut [u8], at: usize, x: Name)
     let length = x.length;
     let record = [
         1,
-        (n / 1099511627776 % 256) as u8,
-        (n / 4294967296 % 256) as u8,
-        (n / 16777216 % 256) as u8,
-        (n / 65536 % 256) as u8,
+        (n / TWO_40 % 256) as u8,
+        (n / TWO_32 % 256) as u8,
+        (n / TWO_24 % 256) as u8,
+        (n / TWO_16 % 256) as u8,
         (n / 256 % 256) as u8,
         (n % 256) as u8,
         kind,
@@ -147,7 +156,7 @@ fn put_name(t: &mut [u8], at: usize, x: Name)
 
 // A name more: the names above it go one record up, and it takes the place that they leave.
 pub fn define(t: &mut [u8], count: usize, x: Name)
-    requires { ⌜ (16 * count + 16 ≤ length (now t)) × (ascending (namesIn count (now t)) ≡ true) × (x .number < 281474976710656) ⌝ }
+    requires { ⌜ (16 * count + 16 ≤ length (now t)) × (ascending (namesIn count (now t)) ≡ true) × (x .number < 2 ^ 48) ⌝ }
     ensures { λ _. ⌜ namesIn (count + 1) (now (t .exit)) ≡ defined x (namesIn count (now (t .entry))) ⌝ }
     ensures { λ _. ⌜ drop (16 * count + 16) (now (t .exit)) ≡ drop (16 * count + 16) (now (t .entry)) ⌝ }
     ensures { λ _. ⌜ now (t .exit) ≡ put x count (now (t .entry)) ⌝ }

@@ -30,7 +30,7 @@ addressOf look here o a = record {
   implied = termLength look (termAt o (a .at));
 }
 
--- only the address constants of a DC have an expression
+-- R8.12: only the address constants of a DC have an expression
 abbrev pub byType : DataType → Operands → Operands
 byType Characters x = None
 byType Hexadecimal x = None

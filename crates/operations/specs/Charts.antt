@@ -1,4 +1,4 @@
--- The manual's Appendix A: the operation byte of each machine instruction, line by line of its chart. Operand 1 is direct, by register 1, by register 2, and operand 2 so for each.
+-- R4.4, R9.8, R9.9: the operation byte of each instruction at all modes, as the manual's Appendix A has it line by line. Operand 1 is direct, by register 1, by register 2, and operand 2 so for each.
 use Prim.Native.Nat.{ℕ}
 use Prim.Native.String.{String}
 use mathlib.Core.List.{List, [], _∷_}

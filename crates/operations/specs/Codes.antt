@@ -1,4 +1,4 @@
--- The operation byte, by the formula of the operands' modes.
+-- R4.4, R9.9: the operation byte, by the formula of the operands' modes.
 use Prim.Native.Nat.{ℕ, _+_, _*_, _%_}
 use Rattle.operations.specs.declared.Operation.{Operation}
 use Rattle.operations.specs.declared.traits.Opcode.{Opcode}
@@ -9,7 +9,7 @@ use Rattle.operations.specs.Traits.{traitsOf}
 abbrev pub halves : ℕ → ℕ → ℕ
 halves high low = 16 * (high % 16) + low % 16
 
--- "The high half of the operation byte is a formula of the modes i and j": two address 4i+j, one address 4i+3, branch 12+j
+-- R4.4: the high half by the modes i and j: two address 4i+j, one address 4i+3, branch 12+j
 unfoldable pub twoAddress : ℕ → ℕ → ℕ → ℕ
 twoAddress i j low = halves (4 * i + j) low
 
@@ -19,7 +19,7 @@ oneAddress i low = halves (4 * i + 3) low
 unfoldable pub branch : ℕ → ℕ → ℕ
 branch j low = halves (12 + j) low
 
--- the operation byte at the modes of the operands (direct 0, by register 1, by register 2); a lone operand's mode is given as both. 0 for an operation that makes none
+-- R9.9: the operation byte at the modes of the operands (R9.8); a lone operand's mode is given as both. 0 for an operation that makes none
 abbrev pub byteBy : Opcode → ℕ → ℕ → ℕ
 byteBy NoByte i j = 0
 byteBy (ByTwoModes low) i j = twoAddress i j low

@@ -1,15 +1,15 @@
--- The operations of a Model 10: the assembler's own, document 01's "Instructions" and the manual's table of extended mnemonics, each in its order.
+-- R4.3 to R4.5: the operations of a Model 10: the assembler's own, the instructions by their kinds, the extended mnemonics.
 use mathlib.Core.List.{List, [], _∷_, _++_}
 use Rattle.operations.specs.Rows.{Row, row}
 use Rattle.operations.specs.declared.Operation.the-variants.{Start, Equ, Org, Dc, Ds, Using, Drop, End, TwoLengths, OneLength, HalfBytes, HalfBytesOf, OneAddress, Branch, LoadAddress, BranchOn, Jump, JumpOn}
 
--- "START, EQU, ORG, DC, DS, USING, DROP, END"
+-- R4.3: the assembler's own
 unfoldable pub ownOperations : List Row
 ownOperations =
     row "START" Start ∷ row "EQU" Equ ∷ row "ORG" Org ∷ row "DC" Dc ∷ row "DS" Ds ∷ row "USING" Using ∷ row "DROP" Drop ∷
     row "END" End ∷ []
 
--- two address, with the low half; ZAZ, AZ and SZ have a length on each operand, MVX has an item
+-- R4.4: two addresses, with the low half; ZAZ, AZ and SZ have a length on each operand, MVX has an item
 unfoldable pub twoAddresses : List Row
 twoAddresses =
     row "ZAZ" (TwoLengths 0x4) ∷ row "AZ" (TwoLengths 0x6) ∷ row "SZ" (TwoLengths 0x7) ∷ row "MVX" HalfBytes ∷
@@ -23,7 +23,7 @@ oneAddresses =
     row "A" (OneAddress 0x6) ∷ row "TBN" (OneAddress 0x8) ∷ row "TBF" (OneAddress 0x9) ∷ row "SBN" (OneAddress 0xA) ∷
     row "SBF" (OneAddress 0xB) ∷ row "MVI" (OneAddress 0xC) ∷ row "CLI" (OneAddress 0xD) ∷ []
 
--- branch; LA's Q is a register
+-- R4.4: branch; LA's Q is a register
 unfoldable pub branches : List Row
 branches =
     row "BC" (Branch 0x0) ∷ row "TIO" (Branch 0x1) ∷ row "LA" LoadAddress ∷ []
@@ -33,12 +33,12 @@ unfoldable pub jumps : List Row
 jumps =
     row "JC" Jump ∷ []
 
--- the manual's table: extended moves with the item of MVX
+-- R4.5: extended moves with the item of MVX
 unfoldable pub extendedMoves : List Row
 extendedMoves =
     row "MZZ" (HalfBytesOf 0x00) ∷ row "MNZ" (HalfBytesOf 0x02) ∷ row "MZN" (HalfBytesOf 0x01) ∷ row "MNN" (HalfBytesOf 0x03) ∷ []
 
--- extended branches with the Q code of BC
+-- R4.5: extended branches with the Q code of BC
 unfoldable pub extendedBranches : List Row
 extendedBranches =
     row "B" (BranchOn 0x87) ∷ row "BH" (BranchOn 0x84) ∷ row "BL" (BranchOn 0x82) ∷ row "BE" (BranchOn 0x81) ∷
@@ -47,7 +47,7 @@ extendedBranches =
     row "BF" (BranchOn 0x90) ∷ row "BP" (BranchOn 0x84) ∷ row "BM" (BranchOn 0x82) ∷ row "BZ" (BranchOn 0x81) ∷
     row "BNP" (BranchOn 0x04) ∷ row "BNM" (BranchOn 0x02) ∷ row "BNZ" (BranchOn 0x01) ∷ []
 
--- extended jumps with the Q code of JC
+-- R4.5: extended jumps with the Q code of JC
 unfoldable pub extendedJumps : List Row
 extendedJumps =
     row "J" (JumpOn 0x87) ∷ row "JH" (JumpOn 0x84) ∷ row "JL" (JumpOn 0x82) ∷ row "JE" (JumpOn 0x81) ∷

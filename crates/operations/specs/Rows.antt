@@ -1,4 +1,4 @@
--- An operation table, and the operation that a card's letters name in it.
+-- R4.1: an operation table, and the operation that a card's letters name in it.
 use Prim.Native.Nat.{ℕ, zero, suc, _+_, _-_}
 use Prim.Native.String.{String, [] as none, _∷_ as _then_}
 use mathlib.Core.List.{List, [], _∷_}
@@ -45,6 +45,6 @@ unfoldable pub wordNumber : List ℕ → ℕ → ℕ → ℕ
 wordNumber s from to =
     number5 (wordLetter s from to 0 ∷ wordLetter s from to 1 ∷ wordLetter s from to 2 ∷ wordLetter s from to 3 ∷ wordLetter s from to 4 ∷ [])
 
--- the operation of the word between two positions of a card. No mnemonic has more than five letters
+-- R4.1: the operation of the word between two positions of a card. No mnemonic has more than five letters
 unfoldable pub operationAt : List Row → List ℕ → ℕ → ℕ → Operation
 operationAt rows s from to = pick (leb (to - from) 5) (operationIn rows (wordNumber s from to)) Unknown

@@ -1,4 +1,4 @@
--- What an operation is, all in one row, and what the row says by itself: refusals 12 and 14.
+-- R4.3 to R4.5, R3.2: what an operation is, all in one row, and what the row says by itself: refusals 12 and 14.
 use Prim.Native.Nat.{ℕ}
 use mathlib.Core.Bool.{Bool, true, false}
 use lib.Dec.{eqb}
@@ -24,7 +24,7 @@ use Rattle.operations.specs.declared.traits.Traits.{Traits}
 
 -- THE ROWS
 
--- no operation: no operand is right for it
+-- R4.1: no operation: no operand is right for it
 abbrev pub unknown : Traits
 unknown = record {
   known = false;
@@ -38,7 +38,7 @@ unknown = record {
   opcode = NoByte;
 }
 
--- one of the assembler's own: whether it has a name, what it does to the counter, its operand, the kind wanted of its first expression, its use of it
+-- R4.3: one of the assembler's own: whether it has a name, what it does to the counter, its operand, the kind wanted of its first expression, its use of it
 abbrev pub own : Naming → Role → Pattern → Wanted → Use → Traits
 own naming role pattern first uses = record {
   known = true;
@@ -52,7 +52,7 @@ own naming role pattern first uses = record {
   opcode = NoByte;
 }
 
--- an instruction with addresses: its operand, its Q, its operation byte; operation byte and Q are two bytes
+-- R4.4, R9.5: an instruction with addresses: its operand, its Q, its operation byte; operation byte and Q are two bytes
 abbrev pub instruction : Pattern → Rule → Opcode → Traits
 instruction pattern rule opcode = record {
   known = true;
@@ -66,7 +66,7 @@ instruction pattern rule opcode = record {
   opcode = opcode;
 }
 
--- a jump goes to a relocatable target and has three bytes, the first F2
+-- R9.5, R11.8: a jump goes to a relocatable target and has three bytes, the first F2
 abbrev pub jump : Pattern → Rule → Traits
 jump pattern rule = record {
   known = true;
@@ -121,11 +121,11 @@ ruleOf o = traitsOf o .rule
 abbrev pub fixedSize : Operation → ℕ
 fixedSize o = traitsOf o .fixed
 
--- 12: operation absent or unknown
+-- R4.1: 12, no operation, or one that is not known
 abbrev pub operationNo : Operation → ℕ
 operationNo o = pick (traitsOf o .known) 0 12
 
--- 14, of a card whose name is a number, 0 where it has none
+-- R3.2: 14, where a name is missing or may not stand; 0 is no name
 abbrev pub namedNo : Naming → ℕ → ℕ
 namedNo Needed name = pick (eqb name 0) 14 0
 namedNo Taken name = 0

@@ -3,7 +3,6 @@ pub mod codes;
 pub mod traits;
 
 use values::words::wide64;
-
 ghost use mathlib.Core.Path.{_≡_};
 ghost use Prim.Native.Nat.{_-_, _<_};
 ghost use lib.ListN.{length, getD};

@@ -1,23 +1,23 @@
 -- What is known of a line that pass one lets through, rule by rule; and what it has seen to on every card.
 use Prim.Native.Nat.{ℕ, _+_, _≤_}
 use mathlib.Core.List.{List, [], _∷_}
-use mathlib.Core.Path.{_≡_, refl, sym, ap, _∙_}
+use mathlib.Core.Path.{_≡_, refl}
 use mathlib.Core.Bool.{Bool, true, false}
 use native.Mathlib.Omega.{arith}
-use lib.Dec.{leb, eqb}
+use lib.Dec.{leb}
 use borrow.Author.Tests.{eq-eqb, le-leb, leb-true}
-use Rattle.values.specs.Tests.{pick, both, orElse}
+use Rattle.values.specs.Tests.{pick}
 use Rattle.values.proofs.Refusals.{or-zero}
 use Rattle.names.specs.Names.{find, nameRefusal}
 use Rattle.cards.specs.Fields.{byteNo}
-use Rattle.operations.specs.Codes.{operationNo, nameNo}
+use Rattle.operations.specs.Traits.{operationNo, nameNo}
 use Rattle.forms.specs.Size.{sizeOf}
 use Rattle.lines.specs.declared.Line.{Line}
 use Rattle.lines.specs.declared.Reading.{Reading}
 use Rattle.lines.specs.declared.Reading.the-variants.{Comment, BadName, Statement}
 use Rattle.lines.specs.Lines.{readingOf, shapeNo}
-use Rattle.passes.specs.Cards.{roleOf}
-use Rattle.passes.specs.One.{State, Passed, afterEndNo, startNo, mostNames, ifNamed, earlyNo, overNo, dataNo, roomNo, valueNo, lineNo, readingNo, oneNo, stepOne, passOne}
+use Rattle.operations.specs.Traits.{roleOf}
+use Rattle.passes.specs.One.{State, afterEndNo, startNo, mostNames, ifNamed, earlyNo, overNo, sizesNo, roomNo, valueNo, lineNo, readingNo, oneNo, stepOne, passOne}
 use Rattle.passes.specs.One.Passed.{through}
 use Rattle.passes.specs.Sound.{soundReading, sound}
 use Rattle.passes.proofs.Turns.{pass-turn}
@@ -30,10 +30,10 @@ pub record Fine (st : State) (s : List ℕ) (l : Line) : Type 0 where
   pub new : ifNamed (l .name) (nameRefusal mostNames (st .names) (l .name)) ≡ 0
   pub early : earlyNo (find (st .names)) (st .counter) s l ≡ 0
   pub low : ifNamed (l .name) (overNo (find (st .names)) (st .counter) s l) ≡ 0
-  pub sizes : dataNo (l .shape) ≡ 0
+  pub sizes : sizesNo (l .shape) ≡ 0
   pub room : st .counter + sizeOf (l .operation) (l .shape) ≤ 65536
 
-room-fits : (counter size : ℕ) → roomNo counter size ≡ 0 → counter + size ≤ 65536
+pub room-fits : (counter size : ℕ) → roomNo counter size ≡ 0 → counter + size ≤ 65536
 room-fits counter size h = go (leb (counter + size) 65536) refl h
   where
     go : (b : Bool) → leb (counter + size) 65536 ≡ b → pick {X = ℕ} b 0 24 ≡ 0 → counter + size ≤ 65536

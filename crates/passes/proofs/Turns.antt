@@ -3,15 +3,14 @@ use Prim.Native.Nat.{ℕ, _+_}
 use mathlib.Core.List.{List, [], _∷_}
 use mathlib.Core.Path.{_≡_, refl}
 use mathlib.Core.Bool.{Bool, true, false}
-use native.Mathlib.Omega.{arith}
 use lib.Dec.{eqb}
 use borrow.Author.Tests.{eq-eqb, ne-eqb, eqb-true}
+use Rattle.values.proofs.Laws.{clash}
 use Rattle.values.specs.Tests.{pick}
-use Rattle.names.specs.declared.Entry.{Entry}
+use Rattle.names.specs.declared.Meaning.{Meaning}
 use Rattle.passes.specs.declared.Course.{Course}
-use Rattle.passes.specs.declared.Checked.{Checked}
-use Rattle.passes.specs.declared.Checked.the-variants.{Clean, Bad}
-use Rattle.passes.specs.One.{State, Passed, oneNo, stepOne, passOne, endedAs}
+use Rattle.passes.specs.Two.Checked.{clean, bad}
+use Rattle.passes.specs.One.{State, oneNo, stepOne, passOne, endedAs}
 use Rattle.passes.specs.One.Passed.{through, stopped}
 use Rattle.passes.specs.Two.{twoNo, stepTwo, checkTwo}
 
@@ -36,28 +35,28 @@ pass-turn k st a s ss h = go (eqb (oneNo st s) 0) refl h
     go : (b : Bool) → eqb (oneNo st s) 0 ≡ b → pick b (passOne (k + 1) (stepOne st s) ss) (stopped (oneNo st s) k) ≡ through a
         → (oneNo st s ≡ 0) × (passOne (k + 1) (stepOne st s) ss ≡ through a)
     go true e h = (eqb-true _ 0 e, h)
-    go false e h = let z : _≡_ {A = ℕ} 0 1 = cc in absurd (omega arith)
+    go false e h = clash (cc)
 
 -- PASS TWO
 
-pub check-more : (look : ℕ → Entry) (k : ℕ) (c : Course) (s : List ℕ) (ss : List (List ℕ)) → twoNo look c s ≡ 0 → checkTwo look k c (s ∷ ss) ≡ checkTwo look (k + 1) (stepTwo look c s) ss
+pub check-more : (look : ℕ → Meaning) (k : ℕ) (c : Course) (s : List ℕ) (ss : List (List ℕ)) → twoNo look c s ≡ 0 → checkTwo look k c (s ∷ ss) ≡ checkTwo look (k + 1) (stepTwo look c s) ss
 unfolding checkTwo
 check-more look k c s ss h = rw (eq-eqb _ _ h)
 
-pub check-stop : (look : ℕ → Entry) (k : ℕ) (c : Course) (s : List ℕ) (ss : List (List ℕ)) → (twoNo look c s ≡ 0 → ⊥) → checkTwo look k c (s ∷ ss) ≡ Bad (twoNo look c s) k
+pub check-stop : (look : ℕ → Meaning) (k : ℕ) (c : Course) (s : List ℕ) (ss : List (List ℕ)) → (twoNo look c s ≡ 0 → ⊥) → checkTwo look k c (s ∷ ss) ≡ bad (twoNo look c s) k
 unfolding checkTwo
 check-stop look k c s ss h = rw (ne-eqb _ _ h)
 
-pub check-end : (look : ℕ → Entry) (k : ℕ) (c : Course) → checkTwo look k c [] ≡ Clean
+pub check-end : (look : ℕ → Meaning) (k : ℕ) (c : Course) → checkTwo look k c [] ≡ clean
 unfolding checkTwo
 check-end look k c = refl
 
-pub check-turn : (look : ℕ → Entry) (k : ℕ) (c : Course) (s : List ℕ) (ss : List (List ℕ)) → checkTwo look k c (s ∷ ss) ≡ Clean
-    → (twoNo look c s ≡ 0) × (checkTwo look (k + 1) (stepTwo look c s) ss ≡ Clean)
+pub check-turn : (look : ℕ → Meaning) (k : ℕ) (c : Course) (s : List ℕ) (ss : List (List ℕ)) → checkTwo look k c (s ∷ ss) ≡ clean
+    → (twoNo look c s ≡ 0) × (checkTwo look (k + 1) (stepTwo look c s) ss ≡ clean)
 unfolding checkTwo
 check-turn look k c s ss h = go (eqb (twoNo look c s) 0) refl h
   where
-    go : (b : Bool) → eqb (twoNo look c s) 0 ≡ b → pick b (checkTwo look (k + 1) (stepTwo look c s) ss) (Bad (twoNo look c s) k) ≡ Clean
-        → (twoNo look c s ≡ 0) × (checkTwo look (k + 1) (stepTwo look c s) ss ≡ Clean)
+    go : (b : Bool) → eqb (twoNo look c s) 0 ≡ b → pick b (checkTwo look (k + 1) (stepTwo look c s) ss) (bad (twoNo look c s) k) ≡ clean
+        → (twoNo look c s ≡ 0) × (checkTwo look (k + 1) (stepTwo look c s) ss ≡ clean)
     go true e h = (eqb-true _ 0 e, h)
-    go false e h = let z : _≡_ {A = ℕ} 0 1 = cc in absurd (omega arith)
+    go false e h = clash (cc)

@@ -1,4 +1,4 @@
--- Assembling: "1, 2, 3; then pass one over the cards in order, then missing END, then pass two, then 30"; the answer and every lent byte.
+-- R13.1, R15: assembling, its refusals in their order; the answer and every lent byte.
 use Prim.Native.Nat.{ℕ}
 use mathlib.Core.List.{List}
 use lib.ListN.{length}
@@ -13,8 +13,8 @@ use Rattle.book.specs.Writing.{bookBytes}
 use Rattle.cards.specs.Source.{sourceNo, cardsOf}
 use Rattle.passes.specs.declared.Assembled.{Assembled}
 use Rattle.passes.specs.declared.Assembled.the-variants.{Made, Refused}
-use Rattle.passes.specs.declared.Checked.{Checked}
-use Rattle.passes.specs.declared.Checked.the-variants.{Clean, Bad}
+use Rattle.passes.specs.Two.{Checked}
+use Rattle.passes.specs.Two.Checked.{clean, bad}
 use Rattle.passes.specs.One.{Passed, fresh, passOne}
 use Rattle.passes.specs.One.Passed.{through, stopped}
 use Rattle.passes.specs.Two.{outset, checkTwo, bookFrom}
@@ -25,8 +25,8 @@ pub data Result : Type 0 where
   refused : ℕ → ℕ → Result
 
 abbrev pub afterTwo : List (List ℕ) → List Name → Checked → Result
-afterTwo ss names Clean = made (length names) (bookFrom (find names) ss)
-afterTwo ss names (Bad number card) = refused number card
+afterTwo ss names clean = made (length names) (bookFrom (find names) ss)
+afterTwo ss names (bad number card) = refused number card
 
 abbrev pub afterOne : List (List ℕ) → Passed → Result
 afterOne ss (through st) = afterTwo ss (st .names) (checkTwo (find (st .names)) 1 outset ss)
@@ -37,33 +37,33 @@ assembled ss = afterOne ss (passOne 1 fresh ss)
 
 -- THE CALL
 
--- "work area under 8,192 bytes"
+-- R15.1: how long a work area must be
 abbrev pub workSize : ℕ
 workSize = 8192
 
--- the answer, and the lent bytes afterwards
+-- R15.2, R15.3: the answer, and the lent bytes afterwards
 pub record Outcome : Type 0 where
   pub answer : Assembled
   pub work : List ℕ
   pub out : List ℕ
 
--- 1, 2 and 3 leave the work area untouched
+-- R15.6: 1, 2 and 3 leave the work area as it was
 abbrev pub refusedAtOnce : ℕ → List ℕ → List ℕ → Outcome
 refusedAtOnce number work out = record { answer = Refused number 0; work = work; out = out }
 
--- "Output past the book is unchanged"; 30: "book longer than the output"
+-- R15.4, R15.5: 30 where the book doesn't fit, else the book in front of the output
 abbrev pub written : ℕ → List ℕ → List ℕ → List ℕ → Outcome
 written names bytes work out =
     pick (ltb (length out) (length bytes))
     (record { answer = Refused 30 0; work = work; out = out })
     (record { answer = Made (length bytes) names; work = work; out = sets out 0 bytes })
 
--- "all of it is on a refusal"
+-- R15.5: a refusal leaves the output
 abbrev pub outcomeOf : Result → List ℕ → List ℕ → Outcome
 outcomeOf (made names book) work out = written names (bookBytes book) work out
 outcomeOf (refused number card) work out = record { answer = Refused number card; work = work; out = out }
 
--- "The first 8,192 bytes of the work area are zero after every answer but 1, 2 and 3 .. bytes beyond them never change"
+-- R13.1, R15.6: 1 and 2, then 3; after every other answer the work area is cleared
 unfoldable pub assembling : ℕ → List ℕ → List ℕ → List ℕ → Outcome
 assembling width source work out =
     pick (eqb (sourceNo width (length source)) 0)

@@ -1,32 +1,32 @@
--- Pass one: "Pass one checks 9 to 17 and 24 on every card, 18 to 20 on EQU and ORG, 20 for names (not where m is out of range), and 21 for DC and DS."
+-- R13.2 to R13.4: pass one, its refusals on each card, and what it keeps between two cards.
 use Prim.Native.Nat.{ℕ, _+_}
 use mathlib.Core.List.{List, [], _∷_}
 use mathlib.Core.Bool.{Bool, true}
 use lib.Dec.{leb, eqb}
 use Rattle.values.specs.Tests.{pick, orElse}
+use Rattle.values.specs.declared.MaybeValue.{MaybeValue}
+use Rattle.values.specs.Values.{amountOf, withValue}
 use Rattle.names.specs.declared.Name.{Name}
-use Rattle.names.specs.declared.Entry.{Entry}
+use Rattle.names.specs.declared.Meaning.{Meaning}
 use Rattle.names.specs.Names.{find, defined, nameRefusal}
-use Rattle.names.specs.Table.{amountOf}
 use Rattle.cards.specs.Fields.{byteNo}
 use Rattle.operations.specs.declared.Operation.{Operation}
-use Rattle.operations.specs.Codes.{operationNo, nameNo}
-use Rattle.data.specs.Sizes.{lengthFits, constantNo, reserveNo}
+use Rattle.operations.specs.declared.traits.Role.{Role}
+use Rattle.operations.specs.declared.traits.Role.the-variants.{Starts, Equates, SetsCounter, Ends, Advances}
+use Rattle.operations.specs.Traits.{roleOf, operationNo, nameNo}
+use Rattle.data.specs.Sizes.{lengthFits, dataNo}
 use Rattle.forms.specs.declared.Shape.{Shape}
-use Rattle.forms.specs.declared.Shape.the-variants.{Fails, Nothing, StartAt, Expression, Pair, Target, Two, One, Only, Constant, Reserve}
+use Rattle.forms.specs.Shape.{ofData}
 use Rattle.forms.specs.Size.{sizeOf}
-use Rattle.values.specs.declared.Value.{Value}
-use Rattle.statements.specs.declared.operands.Operands.{Operands}
-use Rattle.statements.specs.Kinds.{expressionsNo}
+use Rattle.operands.specs.declared.Operands.{Operands}
+use Rattle.operands.specs.Kinds.{expressionsNo}
 use Rattle.lines.specs.declared.Line.{Line}
 use Rattle.lines.specs.declared.Reading.{Reading}
 use Rattle.lines.specs.declared.Reading.the-variants.{Comment, BadName, Statement}
 use Rattle.lines.specs.Lines.{readingOf, shapeNo}
-use Rattle.passes.specs.declared.Role.{Role}
-use Rattle.passes.specs.declared.Role.the-variants.{Starts, Equates, SetsCounter, Ends, Advances}
 use Rattle.passes.specs.declared.Phase.{Phase}
 use Rattle.passes.specs.declared.Phase.the-variants.{Before, Within, Ended}
-use Rattle.passes.specs.Cards.{roleOf, operandsAt, counterAfter, nameValue, nameLength}
+use Rattle.passes.specs.Cards.{operandsAt, counterAfter, nameValue, nameLength}
 
 -- between two cards: the counter, the names defined, and whether START and END have been
 pub record State : Type 0 where
@@ -40,13 +40,13 @@ fresh = record { counter = 0; names = []; phase = Before }
 
 -- REFUSALS
 
--- 9: "a card after END"
+-- R12.3: 9, a card behind END
 abbrev pub afterEndNo : Phase → ℕ
 afterEndNo Before = 0
 afterEndNo Within = 0
 afterEndNo Ended = 9
 
--- 13: "START missing first, or again"
+-- R7.3: 13, no START first, or a second one
 abbrev pub againNo : Role → ℕ
 againNo Starts = 13
 againNo Equates = 0
@@ -66,7 +66,7 @@ startNo Before r = missingNo r
 startNo Within r = againNo r
 startNo Ended r = againNo r
 
--- "At most 512 names"
+-- R3.4: how many names there may be
 abbrev pub mostNames : ℕ
 mostNames = 512
 
@@ -74,7 +74,7 @@ mostNames = 512
 abbrev pub ifNamed : ℕ → ℕ → ℕ
 ifNamed name n = pick (eqb name 0) 0 n
 
--- "18 to 20 on EQU and ORG", over the names of earlier cards
+-- R7.7, R13.4: 18 to 20 of EQU and ORG, over the names of earlier cards
 abbrev pub earlyBy : Role → Operation → Operands → ℕ
 earlyBy Starts op x = 0
 earlyBy Equates op x = expressionsNo op x
@@ -82,86 +82,67 @@ earlyBy SetsCounter op x = expressionsNo op x
 earlyBy Ends op x = 0
 earlyBy Advances op x = 0
 
-unfoldable pub earlyNo : (ℕ → Entry) → ℕ → List ℕ → Line → ℕ
+unfoldable pub earlyNo : (ℕ → Meaning) → ℕ → List ℕ → Line → ℕ
 earlyNo look counter s l = earlyBy (roleOf (l .operation)) (l .operation) (operandsAt look counter s l)
 
--- m is in its range, or the card has none
+-- R13.7: m is in its range, or the card has none
 abbrev pub mFits : Shape → Bool
-mFits (Fails q) = true
-mFits Nothing = true
-mFits (StartAt v) = true
-mFits Expression = true
-mFits (Pair p) = true
-mFits Target = true
-mFits (Two a b) = true
-mFits (One a p) = true
-mFits (Only a) = true
-mFits (Constant d) = lengthFits d
-mFits (Reserve d) = lengthFits d
+mFits x = ofData x lengthFits true
 
--- 20: "a name's value over 65535 included", "not where m is out of range"
-abbrev pub over : Value → ℕ
-over v = pick (leb (amountOf v) 65535) 0 20
+-- R3.7, R13.7: 20 of a name's value, where m is in its range
+abbrev pub amountOver : ℕ → ℕ
+amountOver n = pick (leb n 65535) 0 20
 
-unfoldable pub overNo : (ℕ → Entry) → ℕ → List ℕ → Line → ℕ
+abbrev pub over : MaybeValue → ℕ
+over v = withValue v (λ x. amountOver (amountOf x)) 0
+
+unfoldable pub overNo : (ℕ → Meaning) → ℕ → List ℕ → Line → ℕ
 overNo look counter s l = pick (mFits (l .shape)) (over (nameValue look counter s l)) 0
 
--- 21 of DC and DS
-abbrev pub dataNo : Shape → ℕ
-dataNo (Fails q) = 0
-dataNo Nothing = 0
-dataNo (StartAt v) = 0
-dataNo Expression = 0
-dataNo (Pair p) = 0
-dataNo Target = 0
-dataNo (Two a b) = 0
-dataNo (One a p) = 0
-dataNo (Only a) = 0
-dataNo (Constant d) = constantNo d
-dataNo (Reserve d) = reserveNo d
+-- R13.4: 21 of DC and DS
+abbrev pub sizesNo : Shape → ℕ
+sizesNo x = ofData x dataNo 0
 
--- 24: "counter past 65536"
+-- R7.2: 24, bytes beyond 65536
 abbrev pub roomNo : ℕ → ℕ → ℕ
 roomNo counter size = pick (leb (counter + size) 65536) 0 24
 
--- "the lowest number that holds" of 16 to 24
+-- R13.3: the lowest that holds of 16 to 24
 unfoldable pub valueNo : State → List ℕ → Line → ℕ
 valueNo st s l =
     orElse (ifNamed (l .name) (nameRefusal mostNames (st .names) (l .name)))
     (orElse (earlyNo (find (st .names)) (st .counter) s l)
     (orElse (ifNamed (l .name) (overNo (find (st .names)) (st .counter) s l))
-    (orElse (dataNo (l .shape)) (roomNo (st .counter) (sizeOf (l .operation) (l .shape))))))
+    (orElse (sizesNo (l .shape)) (roomNo (st .counter) (sizeOf (l .operation) (l .shape))))))
 
--- 12 to 15 before them
+-- R13.3: 12 to 15 before them
 unfoldable pub lineNo : State → List ℕ → Line → ℕ
 lineNo st s l =
     orElse (operationNo (l .operation))
     (orElse (startNo (st .phase) (roleOf (l .operation)))
     (orElse (nameNo (l .operation) (l .name)) (orElse (shapeNo (l .shape)) (valueNo st s l))))
 
--- 11: "bad name"
+-- R3.1: 11, a bad name
 abbrev pub readingNo : State → List ℕ → Reading → ℕ
 readingNo st s Comment = 0
 readingNo st s BadName = 11
 readingNo st s (Statement l) = lineNo st s l
 
--- "9 goes before all else on its card"; then 10 over all its statement columns
+-- R13.3, R2.2: 9 before all others; then 10 over all statement columns
 unfoldable pub oneNo : State → List ℕ → ℕ
 oneNo st s = orElse (afterEndNo (st .phase)) (orElse (byteNo s) (readingNo st s (readingOf s)))
 
 -- WHAT A CARD DOES
 
+-- R3.6: a name is defined where it has a value
+abbrev pub definedAs : ℕ → MaybeValue → ℕ → List Name → List Name
+definedAs number v length names = withValue v (λ x. defined (record { number = number; value = x; length = length }) names) names
+
 -- a name more, where the line has one
-unfoldable pub entered : State → List ℕ → Line → List Name
-entered st s l =
+unfoldable pub namesAfter : State → List ℕ → Line → List Name
+namesAfter st s l =
     pick (eqb (l .name) 0) (st .names)
-    (defined
-    (record {
-      number = l .name;
-      value = nameValue (find (st .names)) (st .counter) s l;
-      length = nameLength (l .operation) (l .shape);
-    })
-    (st .names))
+    (definedAs (l .name) (nameValue (find (st .names)) (st .counter) s l) (nameLength (l .operation) (l .shape)) (st .names))
 
 abbrev pub phaseAfter : Role → Phase → Phase
 phaseAfter Starts p = Within
@@ -173,7 +154,7 @@ phaseAfter Advances p = p
 abbrev pub lineStep : State → List ℕ → Line → State
 lineStep st s l = record {
   counter = counterAfter (find (st .names)) (st .counter) s l;
-  names = entered st s l;
+  names = namesAfter st s l;
   phase = phaseAfter (roleOf (l .operation)) (st .phase);
 }
 
@@ -192,13 +173,13 @@ pub data Passed : Type 0 where
   through : State → Passed
   stopped : ℕ → ℕ → Passed
 
--- 9: "no END (card 0)"
+-- R12.4: 9 with card 0 where END is missing
 abbrev pub endedAs : Phase → State → Passed
 endedAs Before st = stopped 9 0
 endedAs Within st = stopped 9 0
 endedAs Ended st = through st
 
--- the cards from number k on
+-- the cards from card k on
 unfoldable pub passOne : ℕ → State → List (List ℕ) → Passed
 passOne k st [] = endedAs (st .phase) st
 passOne k st (s ∷ ss) = pick (eqb (oneNo st s) 0) (passOne (k + 1) (stepOne st s) ss) (stopped (oneNo st s) k)

@@ -9,11 +9,11 @@ use Rattle.lines.specs.declared.Line.{Line}
 use Rattle.lines.specs.declared.Reading.{Reading}
 use Rattle.lines.specs.declared.Reading.the-variants.{Comment, BadName, Statement}
 use Rattle.lines.specs.Lines.{readingOf}
-use Rattle.passes.specs.One.{dataNo}
+use Rattle.passes.specs.One.{sizesNo}
 
 -- the sizes of DC and DS are good, and the card has at most 65536 bytes
 abbrev pub soundLine : Line → Bool
-soundLine l = both (eqb (dataNo (l .shape)) 0) (leb (sizeOf (l .operation) (l .shape)) 65536)
+soundLine l = both (eqb (sizesNo (l .shape)) 0) (leb (sizeOf (l .operation) (l .shape)) 65536)
 
 abbrev pub soundReading : Reading → Bool
 soundReading Comment = true

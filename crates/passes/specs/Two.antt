@@ -1,54 +1,54 @@
--- Pass two, over all names: "Pass two does the rest"; then the records and the entry of the book.
+-- R13.5: pass two, over all names; R16.3, R16.9, R12: the records and the entry of the book.
 use Prim.Native.Nat.{ℕ, _+_}
 use mathlib.Core.List.{List, [], _∷_, map}
 use lib.Dec.{eqb}
 use Rattle.values.specs.Tests.{pick}
-use Rattle.values.specs.declared.Value.{Value}
-use Rattle.values.specs.declared.Value.the-variants.{Absolute, Relocatable}
-use Rattle.names.specs.declared.Entry.{Entry}
-use Rattle.book.specs.declared.Entry.{Entry as BookEntry}
+use Rattle.values.specs.declared.MaybeValue.{MaybeValue}
+use Rattle.values.specs.declared.MaybeRelocatable.{MaybeRelocatable}
+use Rattle.values.specs.declared.MaybeRelocatable.the-variants.{Is, Nothing}
+use Rattle.values.specs.Values.{onlyRelocatable}
+use Rattle.names.specs.declared.Meaning.{Meaning}
+use Rattle.book.specs.declared.Entry.{Entry}
 use Rattle.book.specs.declared.Entry.the-variants.{Absent, At}
 use Rattle.book.specs.Book.{Record, Book}
 use Rattle.data.specs.declared.DataType.{DataType}
 use Rattle.data.specs.declared.DataType.the-variants.{Characters, Hexadecimal, Decimal, Address}
-use Rattle.data.specs.declared.Data.{Data}
+use Rattle.data.specs.declared.DataCard.{DataCard}
+use Rattle.data.specs.declared.DataCard.the-variants.{Constant, Reserve}
 use Rattle.data.specs.Text.{constantText}
-use Rattle.operations.specs.declared.Operation.{Operation}
+use Rattle.operations.specs.declared.traits.Role.{Role}
+use Rattle.operations.specs.declared.traits.Role.the-variants.{Starts, Equates, SetsCounter, Ends, Advances}
+use Rattle.operations.specs.Traits.{roleOf}
 use Rattle.forms.specs.declared.Shape.{Shape}
-use Rattle.forms.specs.declared.Shape.the-variants.{Fails, Nothing, StartAt, Expression, Pair, Target, Two, One, Only, Constant, Reserve}
-use Rattle.statements.specs.declared.places.Base.{Base}
-use Rattle.statements.specs.declared.places.Bases.{Bases}
-use Rattle.statements.specs.Statements.{instructionNo, statementOf, basesAfter, loneValue}
+use Rattle.forms.specs.Shape.{ofData}
+use Rattle.places.specs.declared.Base.{Base}
+use Rattle.statements.specs.Statements.{instructionNo, statementOf, basesAfter}
 use Rattle.encode.specs.Pieces.{Piece, textOf, fieldsOf, piecesOf}
 use Rattle.encode.specs.Pieces.Piece.{plain}
 use Rattle.lines.specs.declared.Line.{Line}
 use Rattle.lines.specs.declared.Reading.{Reading}
 use Rattle.lines.specs.declared.Reading.the-variants.{Comment, BadName, Statement}
-use Rattle.lines.specs.Lines.{readingOf, operandIn}
-use Rattle.passes.specs.declared.Role.{Role}
-use Rattle.passes.specs.declared.Role.the-variants.{Starts, Equates, SetsCounter, Ends, Advances}
+use Rattle.lines.specs.Lines.{readingOf, operandColumns}
 use Rattle.passes.specs.declared.Course.{Course}
-use Rattle.passes.specs.declared.Checked.{Checked}
-use Rattle.passes.specs.declared.Checked.the-variants.{Clean, Bad}
-use Rattle.passes.specs.Cards.{roleOf, operandsAt, counterAfter}
+use Rattle.passes.specs.Cards.{operandsAt, valueAt, counterAfter}
 
 -- before the first card
 abbrev pub outset : Course
 outset = record { counter = 0; bases = record { one = Base.Idle; two = Base.Idle } }
 
--- REFUSALS 18 to 23. Those of EQU and ORG were tested by pass one, and come to the same again.
+-- R13.5: REFUSALS 18 to 23. Those of EQU and ORG were tested by pass one, and come to the same again.
 
-abbrev pub readingTwoNo : (ℕ → Entry) → Course → List ℕ → Reading → ℕ
+abbrev pub readingTwoNo : (ℕ → Meaning) → Course → List ℕ → Reading → ℕ
 readingTwoNo look c s Comment = 0
 readingTwoNo look c s BadName = 0
-readingTwoNo look c s (Statement l) = instructionNo (l .operation) (l .shape) (operandIn s l) look (c .counter) (c .bases)
+readingTwoNo look c s (Statement l) = instructionNo (l .operation) (l .shape) (operandColumns s l) look (c .counter) (c .bases)
 
-unfoldable pub twoNo : (ℕ → Entry) → Course → List ℕ → ℕ
+unfoldable pub twoNo : (ℕ → Meaning) → Course → List ℕ → ℕ
 twoNo look c s = readingTwoNo look c s (readingOf s)
 
 -- WHAT A CARD DOES
 
-abbrev pub readingTwoStep : (ℕ → Entry) → Course → List ℕ → Reading → Course
+abbrev pub readingTwoStep : (ℕ → Meaning) → Course → List ℕ → Reading → Course
 readingTwoStep look c s Comment = c
 readingTwoStep look c s BadName = c
 readingTwoStep look c s (Statement l) = record {
@@ -56,82 +56,85 @@ readingTwoStep look c s (Statement l) = record {
   bases = basesAfter (l .operation) (operandsAt look (c .counter) s l) (c .bases);
 }
 
-unfoldable pub stepTwo : (ℕ → Entry) → Course → List ℕ → Course
+unfoldable pub stepTwo : (ℕ → Meaning) → Course → List ℕ → Course
 stepTwo look c s = readingTwoStep look c s (readingOf s)
 
--- the cards from number k on
-unfoldable pub checkTwo : (ℕ → Entry) → ℕ → Course → List (List ℕ) → Checked
-checkTwo look k c [] = Clean
-checkTwo look k c (s ∷ ss) = pick (eqb (twoNo look c s) 0) (checkTwo look (k + 1) (stepTwo look c s) ss) (Bad (twoNo look c s) k)
+-- no card is refused, or a number of refusal at a card
+pub data Checked : Type 0 where
+  clean : Checked
+  bad : ℕ → ℕ → Checked
+
+-- the cards from card k on
+unfoldable pub checkTwo : (ℕ → Meaning) → ℕ → Course → List (List ℕ) → Checked
+checkTwo look k c [] = clean
+checkTwo look k c (s ∷ ss) = pick (eqb (twoNo look c s) 0) (checkTwo look (k + 1) (stepTwo look c s) ss) (bad (twoNo look c s) k)
 
 -- THE BOOK
 
--- what a constant's type makes of its pieces: C, X and D are told by the columns, A by its statement
+-- R8.7 to R8.9, R8.12: what a constant's type makes of its pieces: C, X and D are told by the columns, A by its statement
 abbrev pub constantPieces : DataType → List ℕ → List Piece → List Piece
 constantPieces Characters text ps = map plain text
 constantPieces Hexadecimal text ps = map plain text
 constantPieces Decimal text ps = map plain text
 constantPieces Address text ps = ps
 
+-- R8.2: DS makes none
+abbrev pub dataPieces : DataCard → DataType → List ℕ → List Piece → List Piece
+dataPieces Constant kind text ps = constantPieces kind text ps
+dataPieces Reserve kind text ps = []
+
 abbrev pub shapePieces : Shape → List ℕ → List Piece → List Piece
-shapePieces (Fails q) o ps = ps
-shapePieces Nothing o ps = ps
-shapePieces (StartAt v) o ps = ps
-shapePieces Expression o ps = ps
-shapePieces (Pair p) o ps = ps
-shapePieces Target o ps = ps
-shapePieces (Two a b) o ps = ps
-shapePieces (One a p) o ps = ps
-shapePieces (Only a) o ps = ps
-shapePieces (Constant d) o ps = constantPieces (d .kind) (constantText o d) ps
-shapePieces (Reserve d) o ps = ps
+shapePieces x o ps = ofData x (λ d. dataPieces (d .card) (d .kind) (constantText o d) ps) ps
 
-unfoldable pub linePieces : (ℕ → Entry) → Course → List ℕ → Line → List Piece
+unfoldable pub linePieces : (ℕ → Meaning) → Course → List ℕ → Line → List Piece
 linePieces look c s l =
-    shapePieces (l .shape) (operandIn s l)
-    (piecesOf (statementOf (l .operation) (l .shape) (operandIn s l) look (c .counter) (c .bases)))
+    shapePieces (l .shape) (operandColumns s l)
+    (piecesOf (statementOf (l .operation) (l .shape) (operandColumns s l) look (c .counter) (c .bases)))
 
-abbrev pub readingPieces : (ℕ → Entry) → Course → List ℕ → Reading → List Piece
+abbrev pub readingPieces : (ℕ → Meaning) → Course → List ℕ → Reading → List Piece
 readingPieces look c s Comment = []
 readingPieces look c s BadName = []
 readingPieces look c s (Statement l) = linePieces look c s l
 
 -- the pieces of a card
-unfoldable pub cardPieces : (ℕ → Entry) → Course → List ℕ → List Piece
+unfoldable pub cardPieces : (ℕ → Meaning) → Course → List ℕ → List Piece
 cardPieces look c s = readingPieces look c s (readingOf s)
 
-abbrev pub recordOf : ℕ → ℕ → List Piece → Record
-recordOf card address ps = record { card = card; address = address; fields = fieldsOf ps; text = textOf ps }
+abbrev pub recordOfPieces : ℕ → ℕ → List Piece → Record
+recordOfPieces card address ps = record { card = card; address = address; fields = fieldsOf ps; text = textOf ps }
 
--- "one record for each card that makes at least one byte, in card order"
+-- R16.3: a record for each card that makes a byte, in the order of the cards
 abbrev pub withRecord : ℕ → ℕ → List Piece → List Record → List Record
 withRecord card address [] rs = rs
-withRecord card address (p ∷ ps) rs = recordOf card address (p ∷ ps) ∷ rs
+withRecord card address (p ∷ ps) rs = recordOfPieces card address (p ∷ ps) ∷ rs
 
-unfoldable pub recordsFrom : (ℕ → Entry) → ℕ → Course → List (List ℕ) → List Record
-recordsFrom look k c [] = []
-recordsFrom look k c (s ∷ ss) = withRecord k (c .counter) (cardPieces look c s) (recordsFrom look (k + 1) (stepTwo look c s) ss)
+unfoldable pub cardRecords : (ℕ → Meaning) → ℕ → Course → List (List ℕ) → List Record
+cardRecords look k c [] = []
+cardRecords look k c (s ∷ ss) = withRecord k (c .counter) (cardPieces look c s) (cardRecords look (k + 1) (stepTwo look c s) ss)
 
--- "END takes a relocatable operand (the entry) or none"
-abbrev pub entryBy : Value → BookEntry
-entryBy (Absolute a) = Absent
-entryBy (Relocatable a) = At a
+-- R12.1, R12.2: END's operand, the entry, or none
+abbrev pub entryOf : MaybeRelocatable → Entry
+entryOf (Is a) = At a
+entryOf Nothing = Absent
 
-abbrev pub roleEntry : Role → Value → BookEntry → BookEntry
+abbrev pub entryBy : MaybeValue → Entry
+entryBy v = entryOf (onlyRelocatable v)
+
+abbrev pub roleEntry : Role → MaybeValue → Entry → Entry
 roleEntry Starts v rest = rest
 roleEntry Equates v rest = rest
 roleEntry SetsCounter v rest = rest
 roleEntry Ends v rest = entryBy v
 roleEntry Advances v rest = rest
 
-abbrev pub readingEntry : (ℕ → Entry) → Course → List ℕ → Reading → BookEntry → BookEntry
+abbrev pub readingEntry : (ℕ → Meaning) → Course → List ℕ → Reading → Entry → Entry
 readingEntry look c s Comment rest = rest
 readingEntry look c s BadName rest = rest
-readingEntry look c s (Statement l) rest = roleEntry (roleOf (l .operation)) (loneValue (operandsAt look (c .counter) s l)) rest
+readingEntry look c s (Statement l) rest = roleEntry (roleOf (l .operation)) (valueAt look (c .counter) s l) rest
 
-unfoldable pub entryFrom : (ℕ → Entry) → Course → List (List ℕ) → BookEntry
+unfoldable pub entryFrom : (ℕ → Meaning) → Course → List (List ℕ) → Entry
 entryFrom look c [] = Absent
 entryFrom look c (s ∷ ss) = readingEntry look c s (readingOf s) (entryFrom look (stepTwo look c s) ss)
 
-unfoldable pub bookFrom : (ℕ → Entry) → List (List ℕ) → Book
-bookFrom look ss = record { entry = entryFrom look outset ss; records = recordsFrom look 1 outset ss }
+unfoldable pub bookFrom : (ℕ → Meaning) → List (List ℕ) → Book
+bookFrom look ss = record { entry = entryFrom look outset ss; records = cardRecords look 1 outset ss }

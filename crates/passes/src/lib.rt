@@ -2,29 +2,23 @@
 use forms::Shape;
 use forms::size_of;
 use lines::Line;
-use names::amount_of;
-use operations::Operation;
-use statements::lone_value;
-use statements::operands::Operands;
-use statements::operands::operands_of;
-use statements::places::Bases;
+use operands::Operands;
+use operands::operands_of;
+use operations::traits::Role;
+use places::Bases;
+use values::MaybeRelocatable;
+use values::MaybeValue;
+use values::only_relocatable;
 ghost use mathlib.Core.Path.{_≡_};
 ghost use mathlib.Core.Bool.{true};
 ghost use Prim.Native.Nat.{_+_, _*_, _^_, _≤_, _<_};
 ghost use lib.ListN.{length};
+ghost use Rattle.values.specs.Values.{onlyRelocatable, withRelocatable};
 ghost use Rattle.names.specs.Names.{find, ascending};
 ghost use Rattle.names.specs.Table.{namesIn};
+ghost use Rattle.forms.specs.Shape.{startOr};
 ghost use Rattle.forms.specs.Size.{sizeOf};
-ghost use Rattle.passes.specs.Cards.{roleOf, startValue, operandsAt, counterBy};
-
-// What a card does to the counter and the names: an ordinary one advances the counter by its bytes.
-pub enum Role {
-    Starts,
-    Equates,
-    SetsCounter,
-    Ends,
-    Advances,
-}
+ghost use Rattle.passes.specs.Cards.{operandsAt, counterBy};
 
 // Where pass one stands: before START, between START and END, behind END.
 pub enum Phase {
@@ -39,60 +33,25 @@ pub struct Course {
     pub bases: Bases,
 }
 
-// What pass two finds: no card is refused, or a number of refusal at a card.
-pub enum Checked {
-    Clean,
-    Bad(u8, u16),
-}
-
 // An assembly's answer: the book's length and the count of names, or a number of refusal with its card.
 pub enum Assembled {
     Made(u32, u16),
     Refused(u8, u16),
 }
 
-pub fn role_of(op: Operation) -> Role
-    ensures { λ r. ⌜ r ≡ roleOf op ⌝ }
+fn widened(n: u16) -> u32
+    ensures { λ r. ⌜ r ≡ n ⌝ }
 {
-    match op {
-        Operation::Unknown => Role::Advances,
-        Operation::Start => Role::Starts,
-        Operation::Equ => Role::Equates,
-        Operation::Org => Role::SetsCounter,
-        Operation::Dc => Role::Advances,
-        Operation::Ds => Role::Advances,
-        Operation::Using => Role::Advances,
-        Operation::Drop => Role::Advances,
-        Operation::End => Role::Ends,
-        Operation::Decimal(_) => Role::Advances,
-        Operation::Characters(_) => Role::Advances,
-        Operation::Move => Role::Advances,
-        Operation::MoveOf(_) => Role::Advances,
-        Operation::OneAddress(_) => Role::Advances,
-        Operation::Branch(_) => Role::Advances,
-        Operation::LoadAddress => Role::Advances,
-        Operation::BranchOn(_) => Role::Advances,
-        Operation::Jump => Role::Advances,
-        Operation::JumpOn(_) => Role::Advances,
-    }
+    n as u32
 }
 
-// START's value.
-pub fn start_value(x: Shape) -> u16
-    ensures { λ r. ⌜ r ≡ startValue x ⌝ }
+// START's value, or else another number.
+pub fn start_or(x: Shape, other: u32) -> u32
+    ensures { λ r. ⌜ r ≡ startOr x other ⌝ }
 {
     match x {
-        Shape::Fails(_) => 0,
-        Shape::Nothing => 0,
-        Shape::StartAt(v) => v,
-        Shape::Expression => 0,
-        Shape::Pair(_) => 0,
-        Shape::Target => 0,
-        Shape::Two(_, _) => 0,
-        Shape::One(_, _) => 0,
-        Shape::Only(_) => 0,
-        Shape::Constant(_) => 0,
-        Shape::Reserve(_) => 0,
+        Shape::StartAt(v) => widened(v),
+        _ => other,
     }
 }
 
@@ -108,24 +67,27 @@ pub fn operands_at(l: Line, card: &[u8], table: &[u8], count: usize, counter: u3
     operands_of(shape, &card[from..end], table, count, counter)
 }
 
-fn widened(n: u16) -> u32
-    ensures { λ r. ⌜ r ≡ n ⌝ }
+// A relocatable value's amount, or else another number.
+fn amount_or(v: MaybeValue, other: u32) -> u32
+    ensures { λ r. ⌜ r ≡ withRelocatable (onlyRelocatable v) (λ n. n) other ⌝ }
 {
-    n as u32
+    match only_relocatable(v) {
+        MaybeRelocatable::Is(a) => widened(a.0),
+        MaybeRelocatable::Nothing => other,
+    }
 }
 
-// The counter behind a card of a role, whose expressions came to x.
-pub fn counter_by(role: Role, x: Operands, counter: u32, l: Line) -> u32
+// The counter behind a card of a role, whose only expression came to v.
+pub fn counter_by(role: Role, v: MaybeValue, counter: u32, l: Line) -> u32
     requires { ⌜ counter + sizeOf (l .operation) (l .shape) < 2 ^ 32 ⌝ }
-    ensures { λ r. ⌜ r ≡ counterBy role x counter l ⌝ }
+    ensures { λ r. ⌜ r ≡ counterBy role v counter l ⌝ }
 {
     let operation = l.operation;
     let shape = l.shape;
     match role {
-        Role::Starts => widened(start_value(shape)),
-        Role::Equates => counter,
-        Role::SetsCounter => widened(amount_of(lone_value(x))),
-        Role::Ends => counter,
+        Role::Starts => start_or(shape, counter),
+        Role::SetsCounter => amount_or(v, counter),
         Role::Advances => counter + size_of(operation, shape) as u32,
+        _ => counter,
     }
 }

@@ -38,7 +38,7 @@ registerCode q = pick (both (leb 1 q) (leb q 2)) (Byte q) OutOfRange
 unfoldable pub writtenCode : ℕ → Code
 writtenCode q = pick (leb q 255) (Byte q) OutOfRange
 
--- the absolute value of an item, or another value where no item is written
+-- R10.8: the absolute value of an item, or another value where no item is written
 abbrev pub itemOr : EvaluatedItem → MaybeAbsolute → MaybeAbsolute
 itemOr EvaluatedItem.Absent other = other
 itemOr (EvaluatedItem.Of e) other = absoluteIn e
@@ -83,7 +83,7 @@ codeOf op (Lone e) = givenCode (ruleOf op)
 codeOf op (AddressConstants n m e) = givenCode (ruleOf op)
 codeOf op None = givenCode (ruleOf op)
 
--- R10.2 to R10.6: 21, a length, an item or a Q out of range, or none that could be in range
+-- R10.2 to R10.6: 21, a length, an item or a Q out of range. Where there is no value, one of 18 to 20 is told before; 0 says that there is a byte
 abbrev pub codeNo : Code → ℕ
 codeNo (Byte b) = 0
 codeNo OutOfRange = 21

@@ -41,7 +41,7 @@ baseOf bases r = pick (eqb r 1) (bases .one) (bases .two)
 unfoldable pub awayFrom : Value → ℕ → ℕ → ℕ → Placed
 awayFrom v r from amount = pick (both (leb from amount) (leb (amount - from) 255)) (At (Indexed v r (amount - from))) OutOfReach
 
--- R11.4, R11.5: a relocatable address lies 0 to 255 above a relocatable base; else 22
+-- R11.4, R11.5: a relocatable address is told from a relocatable base; any other base is 22
 abbrev pub awayFromBase : Value → ℕ → ℕ → Value → Placed
 awayFromBase v r amount (Absolute b) = NoBase
 awayFromBase v r amount (Relocatable b) = awayFrom v r (b .0) amount

@@ -1,4 +1,4 @@
-// The book reader (document 01, "The book"): it holds the lent book and its place, and gives one record at a time.
+// R16.10, the book reader: the lent book and how far it has been read; each step is a record.
 ghost use mathlib.Core.Path.{_≡_};
 ghost use Rattle.book.specs.Reading.{stepAt};
 use book::Cursor;

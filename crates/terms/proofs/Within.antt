@@ -1,5 +1,5 @@
 -- Where a term ends: behind its position and inside the columns; and how large its value and a name's number can be.
-use Prim.Native.Nat.{ℕ, zero, suc, _+_, _-_, _*_, _≤_, _<_}
+use Prim.Native.Nat.{ℕ, zero, suc, _+_, _-_, _*_, _≤_, _<_, _^_}
 use mathlib.Core.List.{List}
 use mathlib.Core.Path.{_≡_, refl, ap}
 use mathlib.Core.Bool.{Bool, true, false}
@@ -34,13 +34,13 @@ Stops s at place = (at ≤ place) × (at ≤ length s → place ≤ length s)
 -- what is known of a term that was read at a position
 abbrev pub Within : List ℕ → ℕ → Term → Type 0
 Within s at (Number v next) = (at < next) × (next ≤ length s) × (v < 65536)
-Within s at (Symbol n next) = (at < next) × (next ≤ length s) × (n < 281474976710656)
+Within s at (Symbol n next) = (at < next) × (next ≤ length s) × (n < 2 ^ 48)
 Within s at (Here next) = (at < next) × (next ≤ length s)
 Within s at (Bad place) = Stops s at place
 
 -- .. of a name
 abbrev pub NameWithin : List ℕ → ℕ → NameRead → Type 0
-NameWithin s at (Named n next) = (at < next) × (next ≤ length s) × (n < 281474976710656)
+NameWithin s at (Named n next) = (at < next) × (next ≤ length s) × (n < 2 ^ 48)
 NameWithin s at (NoName place) = Stops s at place
 
 -- .. and of what stands inside apostrophes
@@ -66,7 +66,7 @@ name-byte-below s at end k = go (ltb (at + k) end) (code-below (getD s (at + k) 
     go true h = h
     go false h = omega arith
 
-pub number-below : (s : List ℕ) (at end : ℕ) → nameNumber s at end < 281474976710656
+pub number-below : (s : List ℕ) (at end : ℕ) → nameNumber s at end < 2 ^ 48
 unfolding nameNumber
 number-below s at end =
     let a = name-byte-below s at end 0 in

@@ -1,4 +1,4 @@
--- Document 01, "Cards": a name at a position, and the number that stands for it.
+-- R3.1: a name at a position, and the number that stands for it.
 use Prim.Native.Nat.{ℕ, _+_}
 use mathlib.Core.List.{List, [], _∷_}
 use mathlib.Core.Bool.{Bool}
@@ -11,11 +11,11 @@ use Rattle.letters.specs.Letters.{classOf, startsName, goesOnName, codeOf, blan
 use Rattle.terms.specs.declared.naming.NameRead.{NameRead}
 use Rattle.terms.specs.declared.naming.NameRead.the-variants.{Named, NoName}
 
--- "A name starts with a letter or $ # @": a name may start at a position
+-- R3.1: a name may start at a position
 abbrev pub startsAt : List ℕ → ℕ → Bool
 startsAt s at = startsName (classOf (getD s at 0))
 
--- ".. and continues with these or digits"
+-- R3.1: what may follow in a name
 abbrev pub goesOnAt : List ℕ → ℕ → Bool
 goesOnAt s at = goesOnName (classOf (getD s at 0))
 
@@ -35,7 +35,7 @@ nameCodes s at end =
 unfoldable pub nameNumber : List ℕ → ℕ → ℕ → ℕ
 nameNumber s at end = base256 (nameCodes s at end)
 
--- "A name has 1 to 6 characters": the number of the one at a position and the position behind it, or the first position at which no name could go on
+-- R3.1: 1 to 6 characters: the number of the name at a position and the position behind it, or the first position at which no name could go on
 abbrev pub nameUpTo : List ℕ → ℕ → ℕ → NameRead
 nameUpTo s at end = pick (goesOnAt s end) (NoName end) (Named (nameNumber s at end) end)
 

@@ -1,4 +1,4 @@
--- Document 01, "Terms and expressions": the term at a position. A bad one says the first position at which no term could go on.
+-- R5.2 to R5.9: the term at a position. A bad one says the first position at which no term could go on.
 use Prim.Native.Nat.{ℕ, zero, suc, _+_, _*_}
 use Prim.Native.Char.{Char}
 use mathlib.Core.List.{List}
@@ -37,7 +37,7 @@ digitsFrom (suc n) base s at v =
     (record { value = v; next = at }))
     (record { value = v; next = at })
 
--- "Decimal: 1 to 5 digits, at most 65535": a digit that follows them is one too many
+-- R5.2: a decimal term; a digit that follows its five, or would take it over 65535, is one too many
 abbrev pub decimalOf : List ℕ → ℕ → Digits → Term
 decimalOf s at d =
     pick (eqb (d .next) at) (Bad at) (pick (digitAt 10 s (d .next)) (Bad (d .next)) (Number (d .value) (d .next)))
@@ -56,15 +56,15 @@ numeralOf s at d = pick (eqb (d .next) at) (Bad at) (closedAt s (d .next) (d .va
 unfoldable pub numeralAt : ℕ → ℕ → List ℕ → ℕ → Term
 numeralAt n base s at = numeralOf s at (digitsFrom n base s at 0)
 
--- "X'..': 1 to 4 hex digits", at the X
+-- R5.3: a hex term, at its X
 unfoldable pub hexAt : List ℕ → ℕ → Term
 hexAt s at = numeralAt 4 16 s (at + 2)
 
--- "B'..': 1 to 16 binary digits", at the B
+-- R5.4: a binary term, at its B
 unfoldable pub binaryAt : List ℕ → ℕ → Term
 binaryAt s at = numeralAt 16 2 s (at + 2)
 
--- inside apostrophes: one character with its code, "an apostrophe written twice"; or the closing apostrophe; or nothing, past the end. Each with the position behind it
+-- R5.5, R8.7: inside apostrophes: one character with its code, an apostrophe as two; or the closing apostrophe; or nothing, past the end. Each with the position behind it
 unfoldable pub quotedAt : List ℕ → ℕ → Quoted
 quotedAt s at =
     pick (stands "'" s at) (pick (stands "'" s (at + 1)) (One (codeOf (getD s at 0)) (at + 2)) (Closed (at + 1)))
@@ -76,17 +76,17 @@ secondOf s a (One b next) = closedAt s next (a * 256 + b)
 secondOf s a (Closed next) = Number a next
 secondOf s a (Nothing at) = Bad at
 
--- without a character: C'' could only go on with the apostrophe that makes it one character
+-- R5.9: without a character: C'' could only go on with the apostrophe that makes it one character
 abbrev pub firstOf : List ℕ → Quoted → Term
 firstOf s (One a next) = secondOf s a (quotedAt s next)
 firstOf s (Closed next) = Bad next
 firstOf s (Nothing at) = Bad at
 
--- "C'..': 1 or 2 characters", at the C
+-- R5.5: a character term, at its C
 unfoldable pub charactersAt : List ℕ → ℕ → Term
 charactersAt s at = firstOf s (quotedAt s (at + 2))
 
--- "A symbol"
+-- R5.6: a name as a term
 abbrev pub symbolOf : NameRead → Term
 symbolOf (Named number next) = Symbol number next
 symbolOf (NoName at) = Bad at
@@ -94,7 +94,7 @@ symbolOf (NoName at) = Bad at
 unfoldable pub symbolAt : List ℕ → ℕ → Term
 symbolAt s at = symbolOf (nameAt s at)
 
--- X, B or C and an apostrophe start a term of their kind; any other letter a symbol
+-- R5.8: X, B or C and an apostrophe start a term of their kind; any other letter a symbol
 unfoldable pub letteredAt : List ℕ → ℕ → Term
 letteredAt s at =
     pick (stands "'" s (at + 1))
@@ -102,7 +102,7 @@ letteredAt s at =
     (pick (stands "B" s at) (binaryAt s at) (pick (stands "C" s at) (charactersAt s at) (symbolAt s at))))
     (symbolAt s at)
 
--- the term at a position, by the class of the character there. "`*` in a term's place": the counter, whatever stands around it
+-- R5.7, R5.9: the term at a position, by the class of the character there; `*` is the counter, whatever stands around it
 abbrev pub termOf : List ℕ → ℕ → Class → Term
 termOf s at Letter = letteredAt s at
 termOf s at Digit = decimalAt s at

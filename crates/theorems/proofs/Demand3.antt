@@ -1,14 +1,9 @@
 -- DEMAND 3, of the calls. Two sources whose statement columns agree on every card but START's, where the name fields agree and the values are s and s + d;
 -- each has its own work area and its own output, and both are accepted. Then both answers are the same, and for every storage loading the first book with d
 -- and the second with 0 gives the same answer and the same storage, a refusal included, overlaid fields included.
-use Prim.Native.Nat.{ℕ, _+_}
-use mathlib.Core.List.{List, [], _∷_, map}
-use mathlib.Core.Path.{_≡_, refl, sym, ap, _∙_}
-use mathlib.Core.Option.{some}
-use native.Mathlib.Omega.{arith}
-use lib.ListN.{take}
-use Rattle.values.specs.declared.Displacement.{Displacement}
-use Rattle.book.specs.Book.{Record, Book, bookOf}
+use Rattle.theorems.specs.Logic.{ℕ, _+_, List, [], _∷_, map, _≡_, refl, sym, ap, _∙_, some, arith, take}
+use Rattle.theorems.specs.Types.{Displacement, Record, Book}
+use Rattle.book.specs.Book.{bookOf}
 use Rattle.cards.specs.Source.{cardsOf}
 use Rattle.fields.proofs.Laws.{moved-length}
 use Rattle.load.specs.Load.{judged, ofBook, loading}
@@ -17,11 +12,12 @@ use Rattle.passes.specs.Assembly.{assembling}
 use Rattle.theorems.specs.Sums.{total, recordLength}
 use Rattle.theorems.specs.Moved.{movedRecord, SameButStart}
 use Rattle.theorems.proofs.Readable.{call-readable}
-use Rattle.theorems.proofs.Sums.{record-length, counts-of-call}
+use Rattle.theorems.proofs.Sums.{counts-of-call}
+use Rattle.book.proofs.Written.{record-length}
 use Rattle.theorems.proofs.Moved.{same-names, book-raised, records-load}
 
 -- a moved record is as long
-moved-size : (d : ℕ) (rs : List Record) → total recordLength (map (movedRecord d) rs) ≡ total recordLength rs
+moved-size : (d : Displacement) (rs : List Record) → total recordLength (map (movedRecord d) rs) ≡ total recordLength rs
 unfolding total
 moved-size d [] = refl
 moved-size d (r ∷ rs) =
@@ -50,7 +46,7 @@ demand-3 d width source work out bytes names h width′ source′ work′ out′
     let (_, f, size, _) = counts-of-call width source work out bytes names h in
     let (_, g, size′, _) = counts-of-call width′ source′ work′ out′ bytes′ names′ k in
     let raised = book-raised d _ _ same names names′ _ _ f g in (
-      size′ ∙ ap (λ (x : Book). 8 + total recordLength (x .records)) raised ∙ ap (λ n. 8 + n) (moved-size d _) ∙ sym size,
+      size′ ∙ ap (λ (x : Book). 8 + total recordLength (x .records)) raised ∙ ap (λ n. 8 + n) (moved-size (record { 0 = d }) _) ∙ sym size,
       same-names d _ _ same names names′ b c p q,
       λ storage. read-judged _ b is (record { 0 = d }) storage ∙ records-load d _ _ same names names′ b c p q storage ∙ sym (read-judged _ c is′ (record { 0 = 0 }) storage),
     )

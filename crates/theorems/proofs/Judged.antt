@@ -1,25 +1,17 @@
--- REFUSED EXACTLY WHEN, of a load (demand 1): "Loading: 50, 51, 52, each over the whole book before the next".
--- "51 and 52 give the card of the first such record; 52 for the entry alone gives 0."
-use Prim.Native.Nat.{ℕ}
-use mathlib.Core.List.{List, [], _∷_, List·Memᴰ, List·Memᴰ·cases-cons, List·Memᴰ·not-nil}
-use mathlib.Core.List.List·Memᴰ.{List·Memᴰ·head, List·Memᴰ·tail}
-use mathlib.Core.Bool.{Bool, true, false}
-use mathlib.Core.Option.{none, some}
-use mathlib.Core.Path.{_≡_, refl, sym, ap, _∙_, subst}
-use mathlib.Core.Logic.{_⊎_, inl, inr, _↔_}
-use native.Mathlib.Omega.{arith}
-use Rattle.values.specs.declared.Displacement.{Displacement}
-use Rattle.book.specs.declared.Entry.{Entry}
-use Rattle.book.specs.Book.{Record, Book, bookOf}
+-- REFUSED EXACTLY WHEN, of a load (R21.3). R17.4: 50, then 51, then 52, each over the whole book.
+-- R17.7, R17.8: 51 and 52 with the card of the first record that fails, 52 with 0 for the entry.
+use Rattle.theorems.specs.Logic.{ℕ, List, [], _∷_, List·Memᴰ, List·Memᴰ·cases-cons, List·Memᴰ·not-nil, List·Memᴰ·head, List·Memᴰ·tail, Bool, true, false, none, some, _≡_, refl, sym, ap, _∙_, _⊎_, inl, inr, _↔_, arith}
+use Rattle.theorems.specs.Types.{Displacement, Entry, Loaded, Record, Book}
+use Rattle.book.specs.Book.{bookOf}
 use Rattle.book.specs.Writing.{fairAll}
 use Rattle.fields.specs.Fields.{overField}
-use Rattle.load.specs.declared.Loaded.the-variants.{Stored, Broken, Outside, Over}
-use Rattle.load.specs.Load.{Outcome, bytesStored, firstCard, outside, roomIn, loading}
+use Rattle.load.specs.Load.{Outcome, bytesStored, firstCard, outside, roomIn, ofBook, loading}
 use Rattle.load.proofs.Laws.{first-hit, first-miss, first-none, none-fails}
 use Rattle.theorems.specs.Moved.{movedEntry}
+use Rattle.book.proofs.Written.{fair-first, read-fair}
+use Rattle.theorems.proofs.Outcomes.{Load, load, firstOutside, firstOver}
+use Rattle.theorems.proofs.Outcomes.Why.{isBroken, isOutside, isOver, isEntryOver}
 use Rattle.theorems.specs.Judged.{NoneFails, FirstFails, entryOver}
-use Rattle.theorems.proofs.Loads.{Load, load, firstOutside, firstOver, fair-first, read-fair}
-use Rattle.theorems.proofs.Loads.Load.{isBroken, isOutside, isOver, isEntryOver, isStored}
 
 -- THE FIRST RECORD THAT FAILS A TEST
 
@@ -39,7 +31,6 @@ module _ (fails : Record → Bool) where
   none-failing [] last f e = none-before
   none-failing (r ∷ rs) last f e =
       let (is, others) = fair-first last r rs f in
-      let rise = is .rise in
       let (passes, rest) = none-fails fails r rs (omega arith) e in
       none-with r rs passes (none-failing rs (r .card) others rest)
 
@@ -73,105 +64,68 @@ module _ (s : List ℕ) (d : Displacement) (m : List ℕ) where
   loaded = loading s d m
 
   abbrev fails51 : Record → Bool
-  fails51 = outside (d .0) (roomIn m)
+  fails51 = outside d (roomIn m)
 
   abbrev fails52 : Record → Bool
-  fails52 = overField (d .0)
+  fails52 = overField d
+
+  -- 0 is the card of no record of a book that was read
+  none-in : (fails : Record → Bool) (b : Book) → bookOf s ≡ some b → firstCard fails (b .records) ≡ 0 → NoneFails fails (b .records)
+  none-in fails b f e = none-failing fails (b .records) 0 (read-fair s b f) e
 
   -- 50 where the bytes are no book
-  pub refused-50 : loaded .answer ≡ Broken ↔ (bookOf s ≡ none)
-  refused-50 = (there, back)
+  pub refused-50 : loaded .answer ≡ Loaded.Broken ↔ (bookOf s ≡ none)
+  unfolding loading
+  refused-50 = (λ h. there (rw h at (load s d m)), λ h. ap (λ x. ofBook x d m .answer) h)
     where
-      there : loaded .answer ≡ Broken → bookOf s ≡ none
-      there h = go (load s d m)
-        where
-          go : Load s d m → bookOf s ≡ none
-          go (isBroken f e) = f
-          go (isOutside b f n e) = let z : _≡_ {A = ℕ} 0 1 = cc in absurd (omega arith)
-          go (isOver b f i n e) = let z : _≡_ {A = ℕ} 0 1 = cc in absurd (omega arith)
-          go (isEntryOver b f i u o e) = let z : _≡_ {A = ℕ} 0 1 = cc in absurd (omega arith)
-          go (isStored b f i u o at x l e) = let z : _≡_ {A = ℕ} 0 1 = cc in absurd (omega arith)
-
-      back : bookOf s ≡ none → loaded .answer ≡ Broken
-      back h = go (load s d m)
-        where
-          go : Load s d m → loaded .answer ≡ Broken
-          go (isBroken f e) = ap (λ (x : Outcome). x .answer) e
-          go (isOutside b f n e) = let z : _≡_ {A = ℕ} 0 1 = cc in absurd (omega arith)
-          go (isOver b f i n e) = let z : _≡_ {A = ℕ} 0 1 = cc in absurd (omega arith)
-          go (isEntryOver b f i u o e) = let z : _≡_ {A = ℕ} 0 1 = cc in absurd (omega arith)
-          go (isStored b f i u o at x l e) = let z : _≡_ {A = ℕ} 0 1 = cc in absurd (omega arith)
+      there : {x : List ℕ} → Load s d m Loaded.Broken x → bookOf s ≡ none
+      there (Load.isRefused (isBroken f)) = f
 
   -- 51 with the card of the first record whose text is outside storage
-  pub refused-51 : (card : ℕ) → loaded .answer ≡ Outside card → (b : Book) × (bookOf s ≡ some b) × (FirstFails fails51 (b .records) card)
-  refused-51 card h = go (load s d m)
+  pub refused-51 : (card : ℕ) → loaded .answer ≡ Loaded.Outside card → (b : Book) × (bookOf s ≡ some b) × (FirstFails fails51 (b .records) card)
+  refused-51 card h = go (rw h at (load s d m))
     where
-      go : Load s d m → (b : Book) × (bookOf s ≡ some b) × (FirstFails fails51 (b .records) card)
-      go (isBroken f e) = let z : _≡_ {A = ℕ} 0 1 = cc in absurd (omega arith)
-      go (isOutside b f n e) =
-          let is : firstOutside s d m b ≡ card = cc in
-          (b, f, subst (FirstFails fails51 (b .records)) is (first-failing fails51 (b .records) n))
-      go (isOver b f i n e) = let z : _≡_ {A = ℕ} 0 1 = cc in absurd (omega arith)
-      go (isEntryOver b f i u o e) = let z : _≡_ {A = ℕ} 0 1 = cc in absurd (omega arith)
-      go (isStored b f i u o at x l e) = let z : _≡_ {A = ℕ} 0 1 = cc in absurd (omega arith)
+      go : {card : ℕ} {x : List ℕ} → Load s d m (Loaded.Outside card) x → (b : Book) × (bookOf s ≡ some b) × (FirstFails fails51 (b .records) card)
+      go (Load.isRefused (isOutside b f n)) = (b, f, first-failing fails51 (b .records) n)
 
   -- 52, where no record is outside, with the card of the first record that has a field over 65535, or 0 for the entry alone
-  pub refused-52 : (card : ℕ) → loaded .answer ≡ Over card
+  pub refused-52 : (card : ℕ) → loaded .answer ≡ Loaded.Over card
       → (b : Book) × (bookOf s ≡ some b) × (NoneFails fails51 (b .records))
       × (FirstFails fails52 (b .records) card ⊎ ((card ≡ 0) × (NoneFails fails52 (b .records)) × (entryOver (d .0) (b .entry) ≡ true)))
-  refused-52 card h = go (load s d m)
+  refused-52 card h = go (rw h at (load s d m))
     where
-      go : Load s d m
+      go : {card : ℕ} {x : List ℕ} → Load s d m (Loaded.Over card) x
           → (b : Book) × (bookOf s ≡ some b) × (NoneFails fails51 (b .records))
           × (FirstFails fails52 (b .records) card ⊎ ((card ≡ 0) × (NoneFails fails52 (b .records)) × (entryOver (d .0) (b .entry) ≡ true)))
-      go (isBroken f e) = let z : _≡_ {A = ℕ} 0 1 = cc in absurd (omega arith)
-      go (isOutside b f n e) = let z : _≡_ {A = ℕ} 0 1 = cc in absurd (omega arith)
-      go (isOver b f i n e) =
-          let is : firstOver s d m b ≡ card = cc in
-          (b, f, none-failing fails51 (b .records) 0 (read-fair s b f) i, inl (subst (FirstFails fails52 (b .records)) is (first-failing fails52 (b .records) n)))
-      go (isEntryOver b f i u o e) =
-          let is : _≡_ {A = ℕ} 0 card = cc in
-          (b, f, none-failing fails51 (b .records) 0 (read-fair s b f) i, inr (sym is, none-failing fails52 (b .records) 0 (read-fair s b f) u, o))
-      go (isStored b f i u o at x l e) = let z : _≡_ {A = ℕ} 0 1 = cc in absurd (omega arith)
+      go (Load.isRefused (isOver b f i n)) = (b, f, none-in fails51 b f i, inl (first-failing fails52 (b .records) n))
+      go (Load.isRefused (isEntryOver b f i u o)) = (b, f, none-in fails51 b f i, inr (refl, none-in fails52 b f u, o))
 
   -- accepted if and only if the bytes are a book, no record is outside storage, and neither a field nor the entry is over 65535;
   -- then the answer is the bytes of its records and the entry plus the displacement
   pub load-accepted : (bytes : ℕ) (at : Entry)
-      → loaded .answer ≡ Stored bytes at
+      → loaded .answer ≡ Loaded.Stored bytes at
       ↔ ((b : Book) × (bookOf s ≡ some b) × (NoneFails fails51 (b .records)) × (NoneFails fails52 (b .records)) × (entryOver (d .0) (b .entry) ≡ false)
-      × (bytes ≡ bytesStored (b .records)) × (at ≡ movedEntry (d .0) (b .entry)))
-  load-accepted bytes at = (there, back)
+      × (bytes ≡ bytesStored (b .records)) × (at ≡ movedEntry d (b .entry)))
+  load-accepted bytes at = (λ h. there (rw h at (load s d m)), back)
     where
-      Goal : Type 0
-      Goal =
+      Whole : ℕ → Entry → Type 0
+      Whole bytes at =
           (b : Book) × (bookOf s ≡ some b) × (NoneFails fails51 (b .records)) × (NoneFails fails52 (b .records)) × (entryOver (d .0) (b .entry) ≡ false)
-          × (bytes ≡ bytesStored (b .records)) × (at ≡ movedEntry (d .0) (b .entry))
+          × (bytes ≡ bytesStored (b .records)) × (at ≡ movedEntry d (b .entry))
 
-      there : loaded .answer ≡ Stored bytes at → Goal
-      there h = go (load s d m)
-        where
-          go : Load s d m → Goal
-          go (isBroken f e) = let z : _≡_ {A = ℕ} 0 1 = cc in absurd (omega arith)
-          go (isOutside b f n e) = let z : _≡_ {A = ℕ} 0 1 = cc in absurd (omega arith)
-          go (isOver b f i n e) = let z : _≡_ {A = ℕ} 0 1 = cc in absurd (omega arith)
-          go (isEntryOver b f i u o e) = let z : _≡_ {A = ℕ} 0 1 = cc in absurd (omega arith)
-          go (isStored b f i u o w x l e) =
-              (b, f, none-failing fails51 (b .records) 0 (read-fair s b f) i, none-failing fails52 (b .records) 0 (read-fair s b f) u, o, cc, cc)
+      there : {bytes : ℕ} {at : Entry} {x : List ℕ} → Load s d m (Loaded.Stored bytes at) x → Whole bytes at
+      there (Load.isStored b f i u o at x l) = (b, f, none-in fails51 b f i, none-in fails52 b f u, o, refl, x)
 
-      back : Goal → loaded .answer ≡ Stored bytes at
+      back : Whole bytes at → loaded .answer ≡ Loaded.Stored bytes at
       back (b, f, inside, under, low, size, to) = go (load s d m)
         where
-          go : Load s d m → loaded .answer ≡ Stored bytes at
-          go (isBroken g e) = let z : _≡_ {A = ℕ} 0 1 = cc in absurd (omega arith)
-          go (isOutside c g n e) =
+          go : {a : Loaded} {x : List ℕ} → Load s d m a x → a ≡ Loaded.Stored bytes at
+          go (Load.isRefused (isBroken g)) = cc
+          go (Load.isRefused (isOutside c g n)) =
               let same : c ≡ b = cc in
               absurd (n (ap (firstOutside s d m) same ∙ no-card fails51 (b .records) inside))
-          go (isOver c g i n e) =
+          go (Load.isRefused (isOver c g i n)) =
               let same : c ≡ b = cc in
               absurd (n (ap (firstOver s d m) same ∙ no-card fails52 (b .records) under))
-          go (isEntryOver c g i u o e) =
-              let same : c ≡ b = cc in
-              let z : _≡_ {A = ℕ} 0 1 = cc in absurd (omega arith)
-          go (isStored c g i u o w x l e) =
-              let same : c ≡ b = cc in
-              ap (λ (x : Outcome). x .answer) e ∙ cc
+          go (Load.isRefused (isEntryOver c g i u o)) = let same : c ≡ b = cc in cc
+          go (Load.isStored c g i u o w x l) = let same : c ≡ b = cc in cc

@@ -1,33 +1,23 @@
 -- The theorems.
-mod Raised
 pub mod Raising
-mod Lines
-mod Kept
-pub mod Grow
-mod Texts
-mod Made
-mod Numbers
-mod Stores
-mod Called
-mod Loads
-pub mod Readable
-pub mod Sums
-pub mod Fields
-pub mod Untouched
-pub mod Stored
+mod Outcomes
 pub mod Judged
 pub mod Accepted
-pub mod Entry
-pub mod ToldOnce
-mod RaisedOperands
+mod RaisedText
+mod Lines
+mod Texts
 mod RaisedStatements
 mod RaisedCards
-mod RaisedText
-mod LowPieces
-mod RaisedOne
-mod RaisedLoad
-mod RaisedTwo
+mod RaisedPasses
 mod Started
+pub mod Grow
+pub mod Readable
+pub mod Untouched
+pub mod Stored
+pub mod Sums
+mod Numbers
+pub mod Fields
+pub mod Entry
+pub mod ToldOnce
 pub mod Moved
 pub mod Demand3
-pub mod Sample

@@ -1,187 +1,165 @@
--- Which shapes the operand of an operation has, and so a line.
-use Prim.{Unit, tt}
-use Prim.Native.Nat.{ℕ, _+_}
-use mathlib.Core.List.{List}
-use mathlib.Core.Bool.{Bool, true, false}
-use mathlib.Core.Path.{_≡_, refl}
-use native.Mathlib.Omega.{arith}
-use lib.ListN.{length}
-use lib.Dec.{ltb, eqb}
-use Rattle.letters.specs.Text.{stands}
+-- Which shapes an operand has by its pattern, and what an operation's row says of them: all that is told of the single operations.
+use Rattle.theorems.specs.Logic.{Unit, tt, ℕ, _+_, List, Bool, true, false, _≡_, refl, length, ltb}
+use Rattle.theorems.specs.Types.{Term, Form, Operation, Role, Pattern, Use, Rule, Traits, Data, DataForm, Address, Addressed, Shape, Line}
 use Rattle.values.specs.Tests.{pick}
-use Rattle.terms.specs.declared.Term.{Term}
-use Rattle.terms.specs.declared.Term.the-variants.{Number, Symbol, Here, Bad}
-use Rattle.expressions.specs.declared.form.Form.{Form}
-use Rattle.expressions.specs.declared.form.Form.the-variants.{Ends, Fails as FormFails}
+use Rattle.letters.specs.Text.{stands}
 use Rattle.expressions.specs.Form.{formOf, expressionAt}
-use Rattle.operations.specs.declared.Operation.{Operation}
-use Rattle.operations.specs.declared.Operation.the-variants.{Unknown, Start, Equ, Org, Dc, Ds, Using, Drop, End, Decimal, Characters, Move, MoveOf, OneAddress, Branch, LoadAddress, BranchOn, Jump, JumpOn}
-use Rattle.data.specs.declared.Data.{Data}
-use Rattle.data.specs.declared.DataForm.{DataForm}
-use Rattle.data.specs.declared.DataForm.the-variants.{Fails as DataFails, Of}
+use Rattle.operations.specs.Traits.{traitsOf, patternOf}
 use Rattle.data.specs.Form.{constantForm, reserveForm}
-use Rattle.forms.specs.declared.Address.{Address}
-use Rattle.forms.specs.declared.Shape.{Shape}
-use Rattle.forms.specs.declared.Shape.the-variants.{Fails, Nothing, StartAt, Expression, Pair, Target, Two, One, Only, Constant, Reserve}
-use Rattle.forms.specs.declared.Lengths.{Lengths}
-use Rattle.forms.specs.declared.Lengths.the-variants.{OnEach, OnOne, OnExactlyOne, OnNone}
-use Rattle.forms.specs.declared.reading.Written.{Written}
-use Rattle.forms.specs.declared.reading.Written.the-variants.{OnlyRegister}
-use Rattle.forms.specs.declared.reading.Addressed.{Addressed}
-use Rattle.forms.specs.declared.reading.Addressed.the-variants.{Reads, Stops}
-use Rattle.forms.specs.Address.{addressAt}
-use Rattle.forms.specs.Size.{pairSize}
-use Rattle.forms.specs.Shape.{ended, behindForm, behindAddressed, behindComma, lastAt, startTerm, startOf, startShape, endShape, pairShape, firstWritten, secondWritten, twoOf, twoShape, oneShape, onlyShape, behindData, constantShape, reserveShape, shapeOf}
-use Rattle.statements.specs.declared.places.Use.{Use}
-use Rattle.statements.specs.declared.places.Use.the-variants.{Jumps, Registers, Nothing as NoUse}
-use Rattle.statements.specs.Places.{useOf}
-use Rattle.lines.proofs.Laws.{line-shape}
-use Rattle.lines.specs.declared.Line.{Line}
+use Rattle.addresses.specs.declared.Allowed.the-variants.{OnlyRegister}
+use Rattle.addresses.specs.Address.{addressAt}
+use Rattle.forms.specs.Shape.{ended, behindForm, behindAddressed, behindComma, lastAt, isAbsent, startTerm, startOf, startShape, endShape, pairShape, firstAllowed, secondAllowed, twoOf, twoShape, oneShape, onlyShape, behindData, constantShape, reserveShape, shapeBy, ofData}
 use Rattle.lines.specs.declared.Reading.the-variants.{Statement}
-use Rattle.lines.specs.Lines.{readingOf, operandIn, shapeNo}
+use Rattle.lines.specs.Lines.{readingOf, operandColumns}
+use Rattle.lines.proofs.Laws.{line-shape}
 
--- WHICH SHAPES AN OPERATION HAS. P holds of every refusal's shape
+-- SHAPES
 
-module _ (P : Shape → Type 0) (fails : (q : ℕ) → P (Fails q)) (o : List ℕ) where
-  ended-has : (q : ℕ) (x : Shape) → P x → P (ended o q x)
+-- a shape that is no refusal is its pattern's
+pub data Has : Pattern → Shape → Type 0 where
+  fails : {p : Pattern} {q : ℕ} → Has p (Shape.Fails q)
+  starts : {v : ℕ} → Has Pattern.StartTerm (Shape.StartAt v)
+  lone : Has Pattern.Expression Shape.Expression
+  nothing : Has Pattern.MaybeExpression Shape.Nothing
+  maybe : Has Pattern.MaybeExpression Shape.Expression
+  constant : {d : Data} → Has Pattern.Constant (Shape.Data d)
+  reserve : {d : Data} → Has Pattern.Reserve (Shape.Data d)
+  pair : {q : ℕ} → Has Pattern.Pair (Shape.Pair q)
+  two : {k : _} {a b : Address} → Has (Pattern.TwoAddresses k) (Shape.TwoAddresses a b)
+  one : {a : Address} {q : ℕ} → Has Pattern.AddressAndCode (Shape.AddressAndCode a q)
+  only : {a : Address} → Has Pattern.LoneAddress (Shape.LoneAddress a)
+  target : Has Pattern.Target Shape.Target
+
+module _ {p : Pattern} (o : List ℕ) where
+  pick-has : (b : Bool) {x y : Shape} → Has p x → Has p y → Has p (pick b x y)
+  pick-has true h k = h
+  pick-has false h k = k
+
+  ended-has : (q : ℕ) {x : Shape} → Has p x → Has p (ended o q x)
   unfolding ended
-  ended-has q x p = go (ltb q (length o))
-    where
-      go : (b : Bool) → P (pick b (Fails q) x)
-      go true = fails q
-      go false = p
+  ended-has q h = pick-has (ltb q (length o)) fails h
 
-  form-has : (f : Form) (on : ℕ → Shape) → ((q : ℕ) → P (on q)) → P (behindForm f on)
-  form-has (Ends q) on p = p q
-  form-has (FormFails q) on p = fails q
+  form-has : (f : Form) (on : ℕ → Shape) → ((q : ℕ) → Has p (on q)) → Has p (behindForm f on)
+  form-has (Form.Ends q) on h = h q
+  form-has (Form.Fails q) on h = fails
 
-  comma-has : (q : ℕ) (on : ℕ → Shape) → ((p : ℕ) → P (on p)) → P (behindComma o q on)
-  comma-has q on p = go (stands "," o q)
-    where
-      go : (b : Bool) → P (pick b (on (q + 1)) (Fails q))
-      go true = p (q + 1)
-      go false = fails q
+  comma-has : (q : ℕ) {x : Shape} → Has p x → Has p (pick (stands "," o q) x (Shape.Fails q))
+  comma-has q h = pick-has (stands "," o q) h fails
 
-  address-has : (x : Addressed) (on : Address → ℕ → Shape) → ((a : Address) (q : ℕ) → P (on a q)) → P (behindAddressed x on)
-  address-has (Reads a q) on p = p a q
-  address-has (Stops q) on p = fails q
+  address-has : (x : Addressed) (on : Address → ℕ → Shape) → ((a : Address) (q : ℕ) → Has p (on a q)) → Has p (behindAddressed x on)
+  address-has (Addressed.Reads a q) on h = h a q
+  address-has (Addressed.Stops q) on h = fails
 
-  pub last-has : (p : ℕ) (x : Shape) → P x → P (lastAt o p x)
+  last-has : (q : ℕ) {x : Shape} → Has p x → Has p (lastAt o q x)
   unfolding lastAt
-  last-has p x h = form-has (formOf (expressionAt o p)) (λ q. ended o q x) (λ q. ended-has q x h)
+  last-has q {x} h = form-has (formOf (expressionAt o q)) (λ r. ended o r x) (λ r. ended-has r h)
 
-  absent-has : P Nothing → (x : Shape) → P x → P (pick (eqb (length o) 0) Nothing x)
-  absent-has n x h = go (eqb (length o) 0)
-    where
-      go : (b : Bool) → P (pick b Nothing x)
-      go true = n
-      go false = h
+pattern-has : (p : Pattern) (o : List ℕ) → Has p (shapeBy p o)
+unfolding startShape endShape pairShape twoShape twoOf oneShape onlyShape constantShape reserveShape
+pattern-has Pattern.Unreadable o = fails
+pattern-has Pattern.StartTerm o = pick-has o (isAbsent o) starts (go (startTerm o))
+  where
+    go : (t : Term) → Has Pattern.StartTerm (startOf o t)
+    go (Term.Number v q) = ended-has o q starts
+    go (Term.Symbol k q) = fails
+    go (Term.Here q) = fails
+    go (Term.Bad q) = fails
+pattern-has Pattern.Expression o = last-has o 0 lone
+pattern-has Pattern.MaybeExpression o = pick-has o (isAbsent o) nothing (last-has o 0 maybe)
+pattern-has Pattern.Constant o = go (constantForm o)
+  where
+    go : (f : DataForm) → Has Pattern.Constant (behindData f)
+    go (DataForm.Of d) = constant
+    go (DataForm.Fails q) = fails
+pattern-has Pattern.Reserve o = go (reserveForm o)
+  where
+    go : (f : DataForm) → Has Pattern.Reserve (behindData f)
+    go (DataForm.Of d) = reserve
+    go (DataForm.Fails q) = fails
+pattern-has Pattern.Pair o =
+    form-has o (formOf (expressionAt o 0)) (λ q. behindComma o q (λ r. lastAt o r (Shape.Pair r)))
+    (λ q. comma-has o q (last-has o (q + 1) pair))
+pattern-has (Pattern.TwoAddresses k) o =
+    address-has o (addressAt (firstAllowed k) o 0) (λ a q. behindComma o q (λ r. twoOf o a r (secondAllowed k (a .length))))
+    (λ a q. comma-has o q
+    (address-has o (addressAt (secondAllowed k (a .length)) o (q + 1)) (λ b r. ended o r (Shape.TwoAddresses a b)) (λ b r. ended-has o r two)))
+pattern-has Pattern.AddressAndCode o =
+    address-has o (addressAt OnlyRegister o 0) (λ a q. behindComma o q (λ r. lastAt o r (Shape.AddressAndCode a r)))
+    (λ a q. comma-has o q (last-has o (q + 1) one))
+pattern-has Pattern.LoneAddress o = address-has o (addressAt OnlyRegister o 0) (λ a q. ended o q (Shape.LoneAddress a)) (λ a q. ended-has o q only)
+pattern-has Pattern.Target o = last-has o 0 target
 
-  pub start-has : P Nothing → ((v : ℕ) → P (StartAt v)) → P (startShape o)
-  unfolding startShape
-  start-has n h = absent-has n (startOf o (startTerm o)) (go (startTerm o))
-    where
-      go : (t : Term) → P (startOf o t)
-      go (Number v q) = ended-has q (StartAt v) (h v)
-      go (Symbol k q) = fails 0
-      go (Here q) = fails 0
-      go (Bad q) = fails q
+pub line-has : (s : List ℕ) (l : Line) → readingOf s ≡ Statement l → Has (patternOf (l .operation)) (l .shape)
+line-has s l q = rw (line-shape s l q) (pattern-has (patternOf (l .operation)) (operandColumns s l))
 
-  end-has : P Nothing → P Expression → P (endShape o)
-  unfolding endShape
-  end-has n h = absent-has n (lastAt o 0 Expression) (last-has 0 Expression h)
+-- what holds of a data card's answers and of the other answers holds of those of every shape
+pub of-data : (P : ((X : Type 0) → (Data → X) → X → X) → Type 0) → ((d : Data) → P (λ X on other. on d)) → P (λ X on other. other) → (x : Shape) → P (λ X on other. ofData x on other)
+of-data P h k (Shape.Fails q) = k
+of-data P h k Shape.Nothing = k
+of-data P h k (Shape.StartAt v) = k
+of-data P h k Shape.Expression = k
+of-data P h k (Shape.Pair q) = k
+of-data P h k Shape.Target = k
+of-data P h k (Shape.TwoAddresses a b) = k
+of-data P h k (Shape.AddressAndCode a q) = k
+of-data P h k (Shape.LoneAddress a) = k
+of-data P h k (Shape.Data d) = h d
 
-  pub pair-has : ((p : ℕ) → P (Pair p)) → P (pairShape o)
-  unfolding pairShape
-  pair-has h =
-      form-has (formOf (expressionAt o 0)) (λ q. behindComma o q (λ p. lastAt o p (Pair p)))
-      (λ q. comma-has q (λ p. lastAt o p (Pair p)) (λ p. last-has p (Pair p) (h p)))
-
-  two-has : (k : Lengths) → ((a b : Address) → P (Two a b)) → P (twoShape k o)
-  unfolding twoShape twoOf
-  two-has k h =
-      address-has (addressAt (firstWritten k) o 0) (λ a q. behindComma o q (λ p. twoOf o a p (secondWritten k (a .length))))
-      (λ a q. comma-has q (λ p. twoOf o a p (secondWritten k (a .length))) (λ p. second a p (secondWritten k (a .length))))
-    where
-      second : (a : Address) (p : ℕ) (w : Written) → P (twoOf o a p w)
-      second a p w = address-has (addressAt w o p) (λ b q. ended o q (Two a b)) (λ b q. ended-has q (Two a b) (h a b))
-
-  one-has : ((a : Address) (p : ℕ) → P (One a p)) → P (oneShape o)
-  unfolding oneShape
-  one-has h =
-      address-has (addressAt OnlyRegister o 0) (λ a q. behindComma o q (λ p. lastAt o p (One a p)))
-      (λ a q. comma-has q (λ p. lastAt o p (One a p)) (λ p. last-has p (One a p) (h a p)))
-
-  only-has : ((a : Address) → P (Only a)) → P (onlyShape o)
-  unfolding onlyShape
-  only-has h = address-has (addressAt OnlyRegister o 0) (λ a q. ended o q (Only a)) (λ a q. ended-has q (Only a) (h a))
-
-  data-has : (f : DataForm) (on : Data → Shape) → ((d : Data) → P (on d)) → P (behindData f on)
-  data-has (Of d) on h = h d
-  data-has (DataFails q) on h = fails q
-
-  constant-has : ((d : Data) → P (Constant d)) → P (constantShape o)
-  unfolding constantShape
-  constant-has h = data-has (constantForm o) Constant h
-
-  reserve-has : ((d : Data) → P (Reserve d)) → P (reserveShape o)
-  unfolding reserveShape
-  reserve-has h = data-has (reserveForm o) Reserve h
-
--- EQU AND ORG have one expression
-
-abbrev pub IsExpression : Shape → Type 0
-IsExpression x = shapeNo x ≡ 0 → x ≡ Expression
-
-lone-expression : (o : List ℕ) → IsExpression (lastAt o 0 Expression)
-lone-expression o = last-has IsExpression (λ q h. absurd (omega arith)) o 0 Expression (λ h. refl)
-
-pub equ-shape : (o : List ℕ) → IsExpression (shapeOf Equ o)
-equ-shape o = lone-expression o
-
-pub org-shape : (o : List ℕ) → IsExpression (shapeOf Org o)
-org-shape o = lone-expression o
-
--- JUMPS: a lone expression is one by its shape, a pair by its operation
+-- ROWS
 
 abbrev pub jumps : Use → Bool
-jumps Jumps = true
-jumps Registers = false
-jumps NoUse = false
+jumps Use.Jumps = true
+jumps Use.Registers = false
+jumps Use.Nothing = false
 
-abbrev pub Told : Operation → Shape → Type 0
-Told op (Fails q) = Unit {0}
-Told op Nothing = Unit {0}
-Told op (StartAt v) = Unit {0}
-Told op Expression = jumps (useOf op) ≡ false
-Told op (Pair p) = pairSize op ≡ pick (jumps (useOf op)) 3 0
-Told op Target = jumps (useOf op) ≡ true
-Told op (Two a b) = Unit {0}
-Told op (One a p) = Unit {0}
-Told op (Only a) = Unit {0}
-Told op (Constant d) = Unit {0}
-Told op (Reserve d) = Unit {0}
+-- R13.4: pass one looks at the expressions of EQU and ORG
+abbrev pub earlyRole : Role → Bool
+earlyRole Role.Starts = false
+earlyRole Role.Equates = true
+earlyRole Role.SetsCounter = true
+earlyRole Role.Ends = false
+earlyRole Role.Advances = false
 
-shape-told : (op : Operation) (o : List ℕ) → Told op (shapeOf op o)
-shape-told Unknown o = tt
-shape-told Start o = start-has (Told Start) (λ q. tt) o tt (λ v. tt)
-shape-told Equ o = last-has (Told Equ) (λ q. tt) o 0 Expression refl
-shape-told Org o = last-has (Told Org) (λ q. tt) o 0 Expression refl
-shape-told Dc o = constant-has (Told Dc) (λ q. tt) o (λ d. tt)
-shape-told Ds o = reserve-has (Told Ds) (λ q. tt) o (λ d. tt)
-shape-told Using o = pair-has (Told Using) (λ q. tt) o (λ p. refl)
-shape-told Drop o = last-has (Told Drop) (λ q. tt) o 0 Expression refl
-shape-told End o = end-has (Told End) (λ q. tt) o tt refl
-shape-told (Decimal low) o = two-has (Told (Decimal low)) (λ q. tt) o OnEach (λ a b. tt)
-shape-told (Characters low) o = two-has (Told (Characters low)) (λ q. tt) o OnOne (λ a b. tt)
-shape-told Move o = two-has (Told Move) (λ q. tt) o OnExactlyOne (λ a b. tt)
-shape-told (MoveOf item) o = two-has (Told (MoveOf item)) (λ q. tt) o OnNone (λ a b. tt)
-shape-told (OneAddress low) o = one-has (Told (OneAddress low)) (λ q. tt) o (λ a p. tt)
-shape-told (Branch low) o = one-has (Told (Branch low)) (λ q. tt) o (λ a p. tt)
-shape-told LoadAddress o = one-has (Told LoadAddress) (λ q. tt) o (λ a p. tt)
-shape-told (BranchOn q) o = only-has (Told (BranchOn q)) (λ q. tt) o (λ a. tt)
-shape-told Jump o = pair-has (Told Jump) (λ q. tt) o (λ p. refl)
-shape-told (JumpOn q) o = last-has (Told (JumpOn q)) (λ q. tt) o 0 Target refl
+-- the bytes beside the addresses: an operation byte and Q, or a jump's three
+abbrev pub Fixed : Pattern → Use → ℕ → Type 0
+Fixed Pattern.Unreadable u n = Unit {0}
+Fixed Pattern.StartTerm u n = Unit {0}
+Fixed Pattern.Expression u n = jumps u ≡ false
+Fixed Pattern.MaybeExpression u n = jumps u ≡ false
+Fixed Pattern.Constant u n = Unit {0}
+Fixed Pattern.Reserve u n = Unit {0}
+Fixed Pattern.Pair u n = n ≡ pick (jumps u) 3 0
+Fixed (Pattern.TwoAddresses k) u n = n ≡ 2
+Fixed Pattern.AddressAndCode u n = n ≡ 2
+Fixed Pattern.LoneAddress u n = n ≡ 2
+Fixed Pattern.Target u n = (jumps u ≡ true) × (n ≡ 3)
 
-pub line-told : (s : List ℕ) (l : Line) → readingOf s ≡ Statement l → Told (l .operation) (l .shape)
-line-told s l q = rw (line-shape s l q) (shape-told (l .operation) (operandIn s l))
+-- EQU and ORG have one expression, which is all there is to them
+abbrev pub Early : Bool → Traits → Type 0
+Early true t = (t .pattern ≡ Pattern.Expression) × (t .uses ≡ Use.Nothing) × (t .rule ≡ Rule.Given 0)
+Early false t = Unit {0}
+
+pub record Row (t : Traits) : Type 0 where
+  pub fixed : Fixed (t .pattern) (t .uses) (t .fixed)
+  pub early : Early (earlyRole (t .role)) t
+
+pub row-of : (op : Operation) → Row (traitsOf op)
+row-of Operation.Unknown = record { fixed = tt; early = tt }
+row-of Operation.Start = record { fixed = tt; early = tt }
+row-of Operation.Equ = record { fixed = refl; early = (refl, refl, refl) }
+row-of Operation.Org = record { fixed = refl; early = (refl, refl, refl) }
+row-of Operation.Dc = record { fixed = tt; early = tt }
+row-of Operation.Ds = record { fixed = tt; early = tt }
+row-of Operation.Using = record { fixed = refl; early = tt }
+row-of Operation.Drop = record { fixed = refl; early = tt }
+row-of Operation.End = record { fixed = refl; early = tt }
+row-of (Operation.TwoLengths low) = record { fixed = refl; early = tt }
+row-of (Operation.OneLength low) = record { fixed = refl; early = tt }
+row-of Operation.HalfBytes = record { fixed = refl; early = tt }
+row-of (Operation.HalfBytesOf item) = record { fixed = refl; early = tt }
+row-of (Operation.OneAddress low) = record { fixed = refl; early = tt }
+row-of (Operation.Branch low) = record { fixed = refl; early = tt }
+row-of Operation.LoadAddress = record { fixed = refl; early = tt }
+row-of (Operation.BranchOn q) = record { fixed = refl; early = tt }
+row-of Operation.Jump = record { fixed = refl; early = tt }
+row-of (Operation.JumpOn q) = record { fixed = (refl, refl); early = tt }

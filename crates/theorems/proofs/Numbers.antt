@@ -1,66 +1,32 @@
--- "Numbers of refusal": what the two passes refuse with is 9 to 24.
-use Prim.Native.Nat.{ℕ, suc, _+_, _≤_, _<_}
-use mathlib.Core.List.{List, [], _∷_}
-use mathlib.Core.Bool.{Bool, true, false}
-use mathlib.Core.Path.{_≡_, refl, sym}
-use mathlib.Core.Logic.{_⊎_, inl, inr}
-use native.Mathlib.Omega.{arith}
-use lib.ListN.{length}
-use lib.Dec.{ltb, leb, eqb}
-use borrow.Author.Tests.{eqb-false}
-use Rattle.values.specs.Tests.{pick, orElse, lower}
-use Rattle.values.specs.declared.Value.{Value}
-use Rattle.names.specs.declared.Entry.{Entry}
-use Rattle.names.specs.Table.{amountOf}
-use Rattle.names.specs.declared.Entry.the-variants.{Known, Unknown as NotKnown}
+-- R14.1: what the two passes refuse with is 9 to 24.
+use Rattle.theorems.specs.Logic.{ℕ, _+_, _≤_, List, Bool, true, false, _≡_, refl, subst, _⊎_, inl, inr, arith, length, ltb, leb, eqb, eqb-true, leb-true}
+use Rattle.theorems.specs.Types.{Meaning, MaybeValue, MaybeAbsolute, Operation, Role, Naming, Use, DataCard, Data, EvaluatedItem, EvaluatedAddress, Operands, Bases, Placed, Code, Wanted, Evaluated, Shape, Line, Reading, Phase, Course, State, refused}
+use Rattle.values.proofs.Laws.{both-true}
+use Rattle.values.specs.Tests.{either, both, pick, orElse, lower}
+use Rattle.values.specs.Values.{amountOf}
 use Rattle.names.specs.Names.{find, refusalOf, nameRefusal}
+use Rattle.operations.specs.Traits.{traitsOf, roleOf, firstWanted, useOf, namedNo}
+use Rattle.data.specs.Sizes.{lengthFits, bytesNeeded, dataSize, constantNo, reserveNo, dataNoBy, dataNo}
+use Rattle.operands.specs.Kinds.{itemNo, addressNo, constantWanted, expressionsNo}
+use Rattle.places.specs.Codes.{codeOf, codeNo}
+use Rattle.places.specs.Places.{isRegister, operandOf, placedNo, jumpTo, reachNo, registerNo, useNo, placesNo}
+use Rattle.statements.specs.Statements.{nextOf, statementNo}
+use Rattle.passes.specs.Cards.{operandsAt, nameValue}
+use Rattle.passes.specs.Two.{outset, readingTwoNo, twoNo}
+use Rattle.theorems.proofs.Lines.{of-data}
 use Rattle.cards.specs.Fields.{allAccepted, byteNo}
-use Rattle.expressions.specs.declared.Wanted.{Wanted}
-use Rattle.expressions.specs.declared.Evaluated.{Evaluated}
-use Rattle.expressions.specs.declared.Evaluated.the-variants.{Good, Malformed, Undefined, WrongKind, OutOfRange}
-use Rattle.expressions.specs.Value.{suits, kindOf, refusalFor}
-use Rattle.operations.specs.declared.Operation.{Operation}
-use Rattle.operations.specs.declared.Operation.the-variants.{Unknown, Start, Equ, Org, Dc, Ds, Using, Drop, End, Decimal, Characters, Move, MoveOf, OneAddress, Branch, LoadAddress, BranchOn, Jump, JumpOn}
-use Rattle.operations.specs.Codes.{operationNo, nameNo}
-use Rattle.data.specs.declared.Data.{Data}
-use Rattle.data.specs.Sizes.{lengthFits, bytesNeeded, dataSize, constantNo, reserveNo}
-use Rattle.forms.specs.declared.Shape.{Shape}
-use Rattle.forms.specs.declared.Shape.the-variants.{Fails, Nothing, StartAt, Expression, Pair, Target, Two, One, Only, Constant, Reserve}
+use Rattle.expressions.specs.Value.{suits, kindOf, refusalFor, absoluteIn}
 use Rattle.forms.specs.Size.{sizeOf}
-use Rattle.statements.specs.declared.operands.Valued.{Valued}
-use Rattle.statements.specs.declared.operands.Place.{Place}
-use Rattle.statements.specs.declared.operands.Operands.{Operands}
-use Rattle.statements.specs.declared.codes.Code.{Code}
-use Rattle.statements.specs.declared.places.Bases.{Bases}
-use Rattle.statements.specs.declared.places.Placed.{Placed}
-use Rattle.statements.specs.declared.places.Use.{Use}
-use Rattle.statements.specs.Kinds.{firstWanted, itemNo, placeNo, addressWanted, expressionsNo}
-use Rattle.statements.specs.Codes.{codeOf, codeNo}
-use Rattle.statements.specs.Operands.{amountIn}
-use Rattle.statements.specs.Places.{useOf, isRegister, operandOf, placedNo, jumpCode, reachNo, useNo, placesNo}
-use Rattle.statements.specs.Statements.{numberOf}
-use Rattle.lines.specs.declared.Line.{Line}
-use Rattle.lines.specs.declared.Reading.{Reading}
-use Rattle.lines.specs.declared.Reading.the-variants.{Comment, BadName, Statement}
 use Rattle.lines.specs.Lines.{readingOf, shapeNo}
-use Rattle.passes.specs.declared.Role.{Role}
-use Rattle.passes.specs.declared.Phase.{Phase}
-use Rattle.passes.specs.declared.Course.{Course}
-use Rattle.passes.specs.declared.Checked.{Checked}
-use Rattle.passes.specs.declared.Checked.the-variants.{Clean, Bad}
-use Rattle.passes.specs.Cards.{roleOf, operandsAt, nameValue}
-use Rattle.passes.specs.One.{State, Passed, fresh, afterEndNo, startNo, againNo, mostNames, earlyBy, earlyNo, mFits, over, overNo, dataNo, valueNo, lineNo, readingNo, oneNo, stepOne, endedAs, passOne}
-use Rattle.passes.specs.One.Passed.{through, stopped}
-use Rattle.passes.specs.Two.{outset, readingTwoNo, twoNo, stepTwo, checkTwo}
-use Rattle.passes.specs.Assembly.{afterTwo, afterOne, assembled}
-use Rattle.passes.specs.Assembly.Result.{refused}
+use Rattle.passes.specs.One.{fresh, afterEndNo, startNo, againNo, mostNames, earlyBy, earlyNo, mFits, over, overNo, valueNo, lineNo, readingNo, oneNo}
+use Rattle.passes.specs.Assembly.{assembled}
+use Rattle.theorems.specs.Grow.{lookIn}
+use Rattle.theorems.specs.Accepted.{oneAt, twoAt, FirstRefused}
+use Rattle.theorems.proofs.Accepted.{Fate, fate}
 
--- none, or 9 to 24
+-- refl, or 9 to 24: a test that computes
 abbrev Number : ℕ → Type 0
-Number n = (n ≡ 0) ⊎ ((9 ≤ n) × (n ≤ 24))
-
-none : Number 0
-none = inl refl
+Number n = either (eqb n 0) (both (leb 9 n) (leb n 24)) ≡ true
 
 pick-number : (b : Bool) (m n : ℕ) → Number m → Number n → Number (pick b m n)
 pick-number true m n h k = h
@@ -74,264 +40,200 @@ lower-number : (m n : ℕ) → Number m → Number n → Number (lower m n)
 unfolding lower
 lower-number m n h k = pick-number (eqb m 0) n _ k (pick-number (eqb n 0) m _ h (pick-number (ltb m n) m n h k))
 
-one : (n : ℕ) → 9 ≤ n → n ≤ 24 → Number n
-one n l u = inr (l, u)
-
 -- PASS TWO
 
 wanted : (w : Wanted) (e : Evaluated) → Number (refusalFor w e)
-wanted w (Good v) = pick-number (suits w (kindOf v)) 0 19 none (one 19 (omega arith) (omega arith))
-wanted w Malformed = one 15 (omega arith) (omega arith)
-wanted w Undefined = one 18 (omega arith) (omega arith)
-wanted w WrongKind = one 19 (omega arith) (omega arith)
-wanted w (OutOfRange k) = pick-number (suits w k) 20 19 (one 20 (omega arith) (omega arith)) (one 19 (omega arith) (omega arith))
+wanted w (Evaluated.Good v) = pick-number (suits w (kindOf v)) 0 19 refl refl
+wanted w Evaluated.Malformed = refl
+wanted w Evaluated.Undefined = refl
+wanted w Evaluated.WrongKind = refl
+wanted w (Evaluated.OutOfRange k) = pick-number (suits w k) 20 19 refl refl
 
-item : (v : Valued) → Number (itemNo v)
-item Valued.Absent = none
-item (Valued.Of e) = wanted Wanted.OnlyAbsolute e
+item : (v : EvaluatedItem) → Number (itemNo v)
+item EvaluatedItem.Absent = refl
+item (EvaluatedItem.Of e) = wanted Wanted.OnlyAbsolute e
 
-place : (p : Place) → Number (placeNo p)
-place p = lower-number _ _ (wanted Wanted.Any (p .address)) (lower-number _ _ (item (p .length)) (item (p .register)))
+address : (a : EvaluatedAddress) → Number (addressNo a)
+address a = lower-number _ _ (wanted Wanted.Any (a .address)) (lower-number _ _ (item (a .length)) (item (a .register)))
 
 expressions : (op : Operation) (x : Operands) → Number (expressionsNo op x)
 unfolding expressionsNo
-expressions op (Operands.Two a b) = lower-number _ _ (place a) (place b)
-expressions op (Operands.One a q) = lower-number _ _ (place a) (wanted Wanted.OnlyAbsolute q)
-expressions op (Operands.Only a) = place a
+expressions op (Operands.TwoAddresses a b) = lower-number _ _ (address a) (address b)
+expressions op (Operands.AddressAndCode a q) = lower-number _ _ (address a) (wanted Wanted.OnlyAbsolute q)
+expressions op (Operands.LoneAddress a) = address a
 expressions op (Operands.Pair e q) = lower-number _ _ (wanted (firstWanted op) e) (wanted Wanted.OnlyAbsolute q)
 expressions op (Operands.Lone e) = wanted (firstWanted op) e
-expressions op (Operands.Addresses n m e) = wanted (addressWanted m) e
-expressions op Operands.None = none
+expressions op (Operands.AddressConstants n m e) = wanted (constantWanted m) e
+expressions op Operands.None = refl
 
 code : (c : Code) → Number (codeNo c)
-code (Code.Byte b) = none
-code Code.OutOfRange = one 21 (omega arith) (omega arith)
+code (Code.Byte b) = refl
+code Code.OutOfRange = refl
+code Code.Nothing = refl
 
 placed : (p : Placed) → Number (placedNo p)
-placed (Placed.At x) = none
-placed Placed.NoBase = one 22 (omega arith) (omega arith)
-placed Placed.OutOfReach = one 23 (omega arith) (omega arith)
+placed (Placed.At x) = refl
+placed Placed.NoBase = refl
+placed Placed.OutOfReach = refl
+placed Placed.Nothing = refl
 
 reach : (c : Code) → Number (reachNo c)
-reach (Code.Byte b) = none
-reach Code.OutOfRange = one 23 (omega arith) (omega arith)
+reach (Code.Byte b) = refl
+reach Code.OutOfRange = refl
+reach Code.Nothing = refl
 
-used : (u : Use) (here : ℕ) (first last : Evaluated) → Number (useNo u here first last)
-used Use.Jumps here first last = reach (jumpCode here _)
-used Use.Registers here first last = pick-number (isRegister (amountIn last)) 0 22 none (one 22 (omega arith) (omega arith))
-used Use.Nothing here first last = none
+register : (r : MaybeAbsolute) → Number (registerNo r)
+register (MaybeAbsolute.Is r) = pick-number (isRegister (r .0)) 0 22 refl refl
+register MaybeAbsolute.Nothing = refl
 
-places : (u : Use) (x : Operands) (here : ℕ) (bases : Bases) → Number (placesNo u x here bases)
+used : (u : Use) (next : ℕ) (first last : Evaluated) → Number (useNo u next first last)
+used Use.Jumps next first last = reach (jumpTo next first)
+used Use.Registers next first last = register (absoluteIn last)
+used Use.Nothing next first last = refl
+
+places : (u : Use) (x : Operands) (next : ℕ) (bases : Bases) → Number (placesNo u x next bases)
 unfolding placesNo
-places u (Operands.Two a b) here bases = lower-number _ _ (placed (operandOf bases a)) (placed (operandOf bases b))
-places u (Operands.One a q) here bases = placed (operandOf bases a)
-places u (Operands.Only a) here bases = placed (operandOf bases a)
-places u (Operands.Pair e last) here bases = used u here e last
-places u (Operands.Lone e) here bases = used u here e e
-places u (Operands.Addresses n m e) here bases = none
-places u Operands.None here bases = none
+places u (Operands.TwoAddresses a b) next bases = lower-number _ _ (placed (operandOf bases a)) (placed (operandOf bases b))
+places u (Operands.AddressAndCode a q) next bases = placed (operandOf bases a)
+places u (Operands.LoneAddress a) next bases = placed (operandOf bases a)
+places u (Operands.Pair e last) next bases = used u next e last
+places u (Operands.Lone e) next bases = used u next e e
+places u (Operands.AddressConstants n m e) next bases = refl
+places u Operands.None next bases = refl
 
-two-number : (look : ℕ → Entry) (c : Course) (s : List ℕ) → Number (twoNo look c s)
-unfolding twoNo numberOf
+two-number : (look : ℕ → Meaning) (c : Course) (s : List ℕ) → Number (twoNo look c s)
+unfolding twoNo statementNo
 two-number look c s = go (readingOf s)
   where
     go : (x : Reading) → Number (readingTwoNo look c s x)
-    go Comment = none
-    go BadName = none
-    go (Statement l) =
+    go Reading.Comment = refl
+    go Reading.BadName = refl
+    go (Reading.Statement l) =
         let x = operandsAt look (c .counter) s l in
-        or-number _ _ (expressions (l .operation) x) (or-number _ _ (code (codeOf (l .operation) x)) (places (useOf (l .operation)) x (c .counter) (c .bases)))
+        or-number _ _ (expressions (l .operation) x) (or-number _ _ (code (codeOf (l .operation) x)) (places (useOf (l .operation)) x (nextOf (l .operation) (c .counter)) (c .bases)))
 
 -- PASS ONE
 
 after : (p : Phase) → Number (afterEndNo p)
-after Phase.Before = none
-after Phase.Within = none
-after Phase.Ended = one 9 (omega arith) (omega arith)
+after Phase.Before = refl
+after Phase.Within = refl
+after Phase.Ended = refl
 
 again : (r : Role) → Number (againNo r)
-again Role.Starts = one 13 (omega arith) (omega arith)
-again Role.Equates = none
-again Role.SetsCounter = none
-again Role.Ends = none
-again Role.Advances = none
+again Role.Starts = refl
+again Role.Equates = refl
+again Role.SetsCounter = refl
+again Role.Ends = refl
+again Role.Advances = refl
 
 start : (p : Phase) (r : Role) → Number (startNo p r)
-start Phase.Before Role.Starts = none
-start Phase.Before Role.Equates = one 13 (omega arith) (omega arith)
-start Phase.Before Role.SetsCounter = one 13 (omega arith) (omega arith)
-start Phase.Before Role.Ends = one 13 (omega arith) (omega arith)
-start Phase.Before Role.Advances = one 13 (omega arith) (omega arith)
+start Phase.Before Role.Starts = refl
+start Phase.Before Role.Equates = refl
+start Phase.Before Role.SetsCounter = refl
+start Phase.Before Role.Ends = refl
+start Phase.Before Role.Advances = refl
 start Phase.Within r = again r
 start Phase.Ended r = again r
 
-named : (op : Operation) (name : ℕ) → Number (operationNo op) × Number (nameNo op name)
-named Unknown name = (one 12 (omega arith) (omega arith), none)
-named Start name = (none, none)
-named Equ name = (none, pick-number (eqb name 0) 14 0 (one 14 (omega arith) (omega arith)) none)
-named Org name = (none, pick-number (eqb name 0) 0 14 none (one 14 (omega arith) (omega arith)))
-named Dc name = (none, none)
-named Ds name = (none, none)
-named Using name = (none, pick-number (eqb name 0) 0 14 none (one 14 (omega arith) (omega arith)))
-named Drop name = (none, pick-number (eqb name 0) 0 14 none (one 14 (omega arith) (omega arith)))
-named End name = (none, pick-number (eqb name 0) 0 14 none (one 14 (omega arith) (omega arith)))
-named (Decimal low) name = (none, none)
-named (Characters low) name = (none, none)
-named Move name = (none, none)
-named (MoveOf i) name = (none, none)
-named (OneAddress low) name = (none, none)
-named (Branch low) name = (none, none)
-named LoadAddress name = (none, none)
-named (BranchOn q) name = (none, none)
-named Jump name = (none, none)
-named (JumpOn q) name = (none, none)
+named : (n : Naming) (name : ℕ) → Number (namedNo n name)
+named Naming.Needed name = pick-number (eqb name 0) 14 0 refl refl
+named Naming.Taken name = refl
+named Naming.Forbidden name = pick-number (eqb name 0) 0 14 refl refl
 
-constant : (d : Data) → Number (constantNo d)
-unfolding constantNo
-constant d =
-    let no = one 21 (omega arith) (omega arith) in
+sizes : (c : DataCard) (d : Data) → Number (dataNoBy c d)
+unfolding constantNo reserveNo
+sizes DataCard.Constant d =
     pick-number (lengthFits d) _ 21
-    (pick-number (ltb 256 (d .copies)) 21 _ no (pick-number (ltb (d .length) (bytesNeeded d)) 21 _ no (pick-number (ltb 256 (dataSize d)) 21 0 no none)))
-    no
+    (pick-number (ltb 256 (d .copies)) 21 _ refl (pick-number (ltb (d .length) (bytesNeeded d)) 21 _ refl (pick-number (ltb 256 (dataSize d)) 21 0 refl refl)))
+    refl
+sizes DataCard.Reserve d = pick-number (lengthFits d) _ 21 (pick-number (ltb 65535 (d .copies)) 21 0 refl refl) refl
 
-reserve : (d : Data) → Number (reserveNo d)
-unfolding reserveNo
-reserve d =
-    let no = one 21 (omega arith) (omega arith) in
-    pick-number (lengthFits d) _ 21 (pick-number (ltb 65535 (d .copies)) 21 0 no none) no
-
--- 15 and 21, by the shape
-shaped : (x : Shape) → Number (shapeNo x) × Number (dataNo x)
-shaped (Fails q) = (one 15 (omega arith) (omega arith), none)
-shaped Nothing = (none, none)
-shaped (StartAt v) = (none, none)
-shaped Expression = (none, none)
-shaped (Pair p) = (none, none)
-shaped Target = (none, none)
-shaped (Two a b) = (none, none)
-shaped (One a p) = (none, none)
-shaped (Only a) = (none, none)
-shaped (Constant d) = (none, constant d)
-shaped (Reserve d) = (none, reserve d)
+-- 15
+shaped : (x : Shape) → Number (shapeNo x)
+shaped (Shape.Fails q) = refl
+shaped Shape.Nothing = refl
+shaped (Shape.StartAt v) = refl
+shaped Shape.Expression = refl
+shaped (Shape.Pair p) = refl
+shaped Shape.Target = refl
+shaped (Shape.TwoAddresses a b) = refl
+shaped (Shape.AddressAndCode a p) = refl
+shaped (Shape.LoneAddress a) = refl
+shaped (Shape.Data d) = refl
 
 new : (st : State) (name : ℕ) → Number (nameRefusal mostNames (st .names) name)
 unfolding nameRefusal
 new st name = go (find (st .names) name)
   where
-    go : (e : Entry) → Number (refusalOf mostNames (length (st .names)) e)
-    go (Known v l) = one 16 (omega arith) (omega arith)
-    go NotKnown = pick-number (ltb (length (st .names)) mostNames) 0 17 none (one 17 (omega arith) (omega arith))
+    go : (e : Meaning) → Number (refusalOf mostNames (length (st .names)) e)
+    go (Meaning.Known v l) = refl
+    go Meaning.Unknown = pick-number (ltb (length (st .names)) mostNames) 0 17 refl refl
 
 early : (r : Role) (op : Operation) (x : Operands) → Number (earlyBy r op x)
-early Role.Starts op x = none
+early Role.Starts op x = refl
 early Role.Equates op x = expressions op x
 early Role.SetsCounter op x = expressions op x
-early Role.Ends op x = none
-early Role.Advances op x = none
+early Role.Ends op x = refl
+early Role.Advances op x = refl
 
-high : (v : Value) → Number (over v)
-high v = pick-number (leb (amountOf v) 65535) 0 20 none (one 20 (omega arith) (omega arith))
+high : (v : MaybeValue) → Number (over v)
+high (MaybeValue.Is v) = pick-number (leb (amountOf v) 65535) 0 20 refl refl
+high MaybeValue.Nothing = refl
 
 value-number : (st : State) (s : List ℕ) (l : Line) → Number (valueNo st s l)
 unfolding valueNo earlyNo overNo
 value-number st s l =
-    or-number _ _ (pick-number (eqb (l .name) 0) 0 _ none (new st (l .name)))
+    or-number _ _ (pick-number (eqb (l .name) 0) 0 _ refl (new st (l .name)))
     (or-number _ _ (early (roleOf (l .operation)) (l .operation) (operandsAt (find (st .names)) (st .counter) s l))
     (or-number _ _
-    (pick-number (eqb (l .name) 0) 0 _ none (pick-number (mFits (l .shape)) _ 0 (high (nameValue (find (st .names)) (st .counter) s l)) none))
-    (or-number _ _ (shaped (l .shape) .1)
-    (pick-number (leb (st .counter + sizeOf (l .operation) (l .shape)) 65536) 0 24 none (one 24 (omega arith) (omega arith))))))
+    (pick-number (eqb (l .name) 0) 0 _ refl (pick-number (mFits (l .shape)) _ 0 (high (nameValue (find (st .names)) (st .counter) s l)) refl))
+    (or-number _ _ (of-data (λ f. Number (f ℕ dataNo 0)) (λ d. sizes (d .card) d) refl (l .shape))
+    (pick-number (leb (st .counter + sizeOf (l .operation) (l .shape)) 65536) 0 24 refl refl))))
 
 line-number : (st : State) (s : List ℕ) (l : Line) → Number (lineNo st s l)
 unfolding lineNo
 line-number st s l =
-    let names = named (l .operation) (l .name) in
-    or-number _ _ (names .0)
+    or-number _ _ (pick-number (traitsOf (l .operation) .known) 0 12 refl refl)
     (or-number _ _ (start (st .phase) (roleOf (l .operation)))
-    (or-number _ _ (names .1) (or-number _ _ (shaped (l .shape) .0) (value-number st s l))))
+    (or-number _ _ (named (traitsOf (l .operation) .naming) (l .name)) (or-number _ _ (shaped (l .shape)) (value-number st s l))))
 
 one-number : (st : State) (s : List ℕ) → Number (oneNo st s)
 unfolding oneNo byteNo
-one-number st s = or-number _ _ (after (st .phase)) (or-number _ _ (pick-number (allAccepted s) 0 10 none (one 10 (omega arith) (omega arith))) (go (readingOf s)))
+one-number st s = or-number _ _ (after (st .phase)) (or-number _ _ (pick-number (allAccepted s) 0 10 refl refl) (go (readingOf s)))
   where
     go : (x : Reading) → Number (readingNo st s x)
-    go Comment = none
-    go BadName = one 11 (omega arith) (omega arith)
-    go (Statement l) = line-number st s l
+    go Reading.Comment = refl
+    go Reading.BadName = refl
+    go (Reading.Statement l) = line-number st s l
 
 -- BOTH PASSES: the number and the card
 
 told : (n : ℕ) → Number n → (n ≡ 0 → ⊥) → (9 ≤ n) × (n ≤ 24)
-told n (inl e) h = absurd (h e)
-told n (inr h) k = h
-
--- 9 to 24 with one of the cards from k on, below `end`; or 9 with card 0: "no END (card 0)"
-abbrev Told : ℕ → ℕ → ℕ → ℕ → Type 0
-Told k end number card = ((9 ≤ number) × (number ≤ 24) × (k ≤ card) × (card < end)) ⊎ ((number ≡ 9) × (card ≡ 0))
-
-module _ (number card : ℕ) where
-  -- what is told of the cards behind the first
-  behind-first : (k n : ℕ) → Told (k + 1) (k + 1 + n) number card → Told k (k + suc n) number card
-  behind-first k n (inl (low, high, from, to)) = inl (low, high, omega arith, omega arith)
-  behind-first k n (inr h) = inr h
-
-  pass-number : (ss : List (List ℕ)) (k : ℕ) (st : State) → passOne k st ss ≡ stopped number card → Told k (k + length ss) number card
-  unfolding passOne
-  pass-number [] k st h = go (st .phase) h
-    where
-      go : (p : Phase) → endedAs p st ≡ stopped number card → Told k (k + 0) number card
-      go Phase.Before h = let e : _≡_ {A = ℕ} 9 number = cc in let f : _≡_ {A = ℕ} 0 card = cc in inr (sym e, sym f)
-      go Phase.Within h = let e : _≡_ {A = ℕ} 9 number = cc in let f : _≡_ {A = ℕ} 0 card = cc in inr (sym e, sym f)
-      go Phase.Ended h = let z : _≡_ {A = ℕ} 0 1 = cc in absurd (omega arith)
-  pass-number (s ∷ ss) k st h = go (eqb (oneNo st s) 0) refl h (pass-number ss (k + 1) (stepOne st s))
-    where
-      go : (b : Bool) → eqb (oneNo st s) 0 ≡ b → pick b (passOne (k + 1) (stepOne st s) ss) (stopped (oneNo st s) k) ≡ stopped number card
-          → (passOne (k + 1) (stepOne st s) ss ≡ stopped number card → Told (k + 1) (k + 1 + length ss) number card)
-          → Told k (k + suc (length ss)) number card
-      go true e h ih = behind-first k (length ss) (ih h)
-      go false e h ih =
-          let is : oneNo st s ≡ number = cc in
-          let at : k ≡ card = cc in
-          let r = told (oneNo st s) (one-number st s) (eqb-false (oneNo st s) 0 e) in
-          inl (omega arith, omega arith, omega arith, omega arith)
-
-  check-number : (look : ℕ → Entry) (ss : List (List ℕ)) (k : ℕ) (c : Course) → checkTwo look k c ss ≡ Bad number card → Told k (k + length ss) number card
-  unfolding checkTwo
-  check-number look [] k c h = let z : _≡_ {A = ℕ} 0 1 = cc in absurd (omega arith)
-  check-number look (s ∷ ss) k c h = go (eqb (twoNo look c s) 0) refl h (check-number look ss (k + 1) (stepTwo look c s))
-    where
-      go : (b : Bool) → eqb (twoNo look c s) 0 ≡ b → pick b (checkTwo look (k + 1) (stepTwo look c s) ss) (Bad (twoNo look c s) k) ≡ Bad number card
-          → (checkTwo look (k + 1) (stepTwo look c s) ss ≡ Bad number card → Told (k + 1) (k + 1 + length ss) number card)
-          → Told k (k + suc (length ss)) number card
-      go true e h ih = behind-first k (length ss) (ih h)
-      go false e h ih =
-          let is : twoNo look c s ≡ number = cc in
-          let at : k ≡ card = cc in
-          let r = told (twoNo look c s) (two-number look c s) (eqb-false (twoNo look c s) 0 e) in
-          inl (omega arith, omega arith, omega arith, omega arith)
+told n h k = go (eqb n 0) refl h
+  where
+    go : (b : Bool) → eqb n 0 ≡ b → either b (both (leb 9 n) (leb n 24)) ≡ true → (9 ≤ n) × (n ≤ 24)
+    go true e h = absurd (k (eqb-true n 0 e))
+    go false e h = let (low, high) = both-true (leb 9 n) (leb n 24) h in (leb-true 9 n low, leb-true n 24 high)
 
 -- what the cards of a source are refused with: 9 to 24 at one of them, or 9 with card 0
 pub cards-number : (ss : List (List ℕ)) (number card : ℕ) → assembled ss ≡ refused number card
     → ((9 ≤ number) × (number ≤ 24) × (1 ≤ card) × (card ≤ length ss)) ⊎ ((number ≡ 9) × (card ≡ 0))
-unfolding assembled
-cards-number ss number card h = first (passOne 1 fresh ss) refl h
+cards-number ss number card h = go (rw h at (fate ss))
   where
-    Goal : Type 0
-    Goal = ((9 ≤ number) × (number ≤ 24) × (1 ≤ card) × (card ≤ length ss)) ⊎ ((number ≡ 9) × (card ≡ 0))
+    Told : ℕ → ℕ → Type 0
+    Told number card = ((9 ≤ number) × (number ≤ 24) × (1 ≤ card) × (card ≤ length ss)) ⊎ ((number ≡ 9) × (card ≡ 0))
 
-    all : (n k : ℕ) → n ≡ number → k ≡ card → Told 1 (1 + length ss) n k → Goal
-    all n k e f (inl (low, high, from, to)) = inl (omega arith, omega arith, omega arith, omega arith)
-    all n k e f (inr (x, y)) = inr (omega arith, omega arith)
+    first : (numberAt : ℕ → ℕ) → ((k : ℕ) → Number (numberAt k)) → (number card : ℕ) → FirstRefused 1 numberAt (length ss) number card → Told number card
+    first numberAt each number card x =
+        let (low, high) = told number (subst Number (x .here) (each (x .place))) (x .refuses) in
+        inl (low, high, omega arith, omega arith)
 
-    second : (st : State) (x : Checked) → checkTwo (find (st .names)) 1 outset ss ≡ x → afterTwo ss (st .names) x ≡ refused number card → Goal
-    second st Clean two h = let z : _≡_ {A = ℕ} 0 1 = cc in absurd (omega arith)
-    second st (Bad n k) two h = all n k (cc) (cc) (check-number n k (find (st .names)) ss 1 outset two)
+    go : {number card : ℕ} → Fate ss (refused number card) → Told number card
+    go (Fate.byOne number card x) = first (oneAt fresh ss) (λ k. one-number _ _) number card x
+    go (Fate.noEnd each no-end) = inr (refl, refl)
+    go (Fate.byTwo each end number card x) = first (twoAt (lookIn ss) outset ss) (λ k. two-number _ _ _) number card x
 
-    first : (p : Passed) → passOne 1 fresh ss ≡ p → afterOne ss p ≡ refused number card → Goal
-    first (through st) one h = second st (checkTwo (find (st .names)) 1 outset ss) refl h
-    first (stopped n k) one h = all n k (cc) (cc) (pass-number n k ss 1 fresh one)
-
--- so the number is none of 1 to 3, and not 30
+-- so the number is refl of 1 to 3, and not 30
 pub cards-range : (ss : List (List ℕ)) (number card : ℕ) → assembled ss ≡ refused number card → (9 ≤ number) × (number ≤ 24) × (card ≤ length ss)
 cards-range ss number card h = go (cards-number ss number card h)
   where

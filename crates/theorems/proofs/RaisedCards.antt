@@ -1,243 +1,182 @@
 -- One card, over names and a counter raised by d: what it does to the counter, to the names, to the bases, and its pieces.
-use Prim.Native.Nat.{ℕ, _+_}
-use mathlib.Core.List.{List, [], _∷_, map}
-use mathlib.Core.Bool.{Bool, true, false, false≢true}
-use mathlib.Core.Path.{_≡_, refl, sym, ap, _∙_, subst}
-use native.Mathlib.Omega.{arith}
-use lib.Dec.{eqb}
-use Rattle.values.specs.Tests.{pick}
-use Rattle.values.specs.declared.Value.the-variants.{Relocatable}
+use Rattle.theorems.specs.Logic.{ℕ, _+_, _-_, List, [], _∷_, map, _≡_, refl, sym, ap, _∙_, arith}
+use Rattle.theorems.specs.Types.{Wanted, MaybeValue, Name, Operation, Role, DataCard, DataType, Data, Item, Address, Shape, Operands, Bases, Line, Addend, Read, Piece, plain}
+use Rattle.values.specs.declared.Value.the-variants.{Absolute, Relocatable}
+use Rattle.values.specs.Values.{onlyRelocatable, withRelocatable}
 use Rattle.values.proofs.Refusals.{lower-zero}
-use Rattle.names.specs.declared.Name.{Name}
-use Rattle.names.specs.declared.Entry.{Entry}
+use Rattle.terms.specs.Terms.{termAt}
 use Rattle.names.specs.Names.{find}
-use Rattle.names.specs.Table.{amountOf}
-use Rattle.names.specs.Raised.{raisedValue, raisedName}
-use Rattle.expressions.specs.Form.{expressionAt}
-use Rattle.expressions.specs.Value.{evaluated, valueIn}
-use Rattle.operations.specs.declared.Operation.{Operation}
-use Rattle.operations.specs.declared.Operation.the-variants.{Unknown, Start, Equ, Org, Dc, Ds, Using, Drop, End, Decimal, Characters, Move, MoveOf, OneAddress, Branch, LoadAddress, BranchOn, Jump, JumpOn}
-use Rattle.data.specs.declared.DataType.{DataType}
+use Rattle.names.specs.Raised.{raisedName}
+use Rattle.expressions.specs.declared.Evaluated.the-variants.{Good}
+use Rattle.expressions.specs.Form.{Placed, expressionAt}
+use Rattle.expressions.specs.Value.{evaluated, refusalFor}
+use Rattle.expressions.proofs.Laws.{accepted}
+use Rattle.operations.specs.Traits.{firstWanted, roleOf}
+use Rattle.data.specs.Sizes.{dataNoBy, dataNo}
 use Rattle.data.specs.Text.{constantText}
 use Rattle.data.proofs.Fine.{constant-fine, reserve-fine}
-use Rattle.forms.specs.declared.Shape.{Shape}
-use Rattle.forms.specs.Shape.{shapeOf}
-use Rattle.statements.specs.declared.operands.Operands.{Operands}
-use Rattle.statements.specs.declared.places.Base.{Base}
-use Rattle.statements.specs.declared.places.Bases.{Bases}
-use Rattle.statements.specs.Operands.{amountIn, operandsOf}
-use Rattle.statements.specs.Kinds.{expressionsNo}
-use Rattle.statements.specs.Places.{withBase, registeredBy, basesBy}
+use Rattle.operands.specs.Operands.{itemOf, addressOf, byType, byCard, operandsOf}
+use Rattle.operands.specs.Kinds.{itemNo, addressNo, constantWanted, expressionsNo}
 use Rattle.statements.specs.Statements.{statementFrom, basesAfter, loneValue}
-use Rattle.encode.specs.Pieces.{Piece, piecesOf}
-use Rattle.encode.specs.Pieces.Piece.{plain}
-use Rattle.lines.specs.declared.Line.{Line}
-use Rattle.lines.specs.declared.Reading.the-variants.{Statement}
-use Rattle.lines.specs.Lines.{readingOf, operandIn, shapeNo}
-use Rattle.lines.proofs.Laws.{line-shape}
-use Rattle.passes.specs.declared.Role.{Role}
-use Rattle.passes.specs.declared.Role.the-variants.{Starts, Equates, SetsCounter, Ends, Advances}
-use Rattle.passes.specs.Cards.{roleOf, operandsAt, counterBy, counterAfter, placeNamed, nameValueBy, nameValue}
-use Rattle.passes.specs.One.{againNo, earlyBy, earlyNo, dataNo}
-use Rattle.passes.specs.Two.{constantPieces, shapePieces, linePieces}
-use Rattle.theorems.specs.Raised.{raisedOperands, raisedBase, raisedBases, raisedPiece}
-use Rattle.theorems.proofs.RaisedOperands.{operands-raised}
-use Rattle.theorems.proofs.RaisedStatements.{value-in-raised, absolute-in, relocatable-in, lone-raised, pieces-raised}
-use Rattle.theorems.proofs.Lines.{last-has, pair-has, org-shape}
+use Rattle.encode.specs.Pieces.{piecesOf}
+use Rattle.lines.specs.Lines.{operandColumns}
+use Rattle.passes.specs.Cards.{operandsAt, counterBy, counterAfter, placeNamed, nameValueBy, nameValue}
+use Rattle.passes.specs.One.{againNo, earlyBy, earlyNo, sizesNo}
+use Rattle.passes.specs.Two.{dataPieces, linePieces}
+use Rattle.theorems.specs.Raised.{raisedMaybe, raisedEvaluated, raisedItem, raisedAddress, raisedOperands, raisedBases, raisedPiece}
+use Rattle.theorems.proofs.Lines.{of-data}
+use Rattle.theorems.proofs.Raising.{expression-raised, implied-raised}
+use Rattle.theorems.proofs.RaisedStatements.{lone-raised, bases-raised, pieces-raised}
 
--- refusals 18 to 20 are those of EQU and ORG again
-pub early-none : (r : Role) (op : Operation) (x : Operands) → expressionsNo op x ≡ 0 → earlyBy r op x ≡ 0
-early-none Starts op x h = refl
-early-none Equates op x h = h
-early-none SetsCounter op x h = h
-early-none Ends op x h = refl
-early-none Advances op x h = refl
+-- OPERANDS: where no expression is refused on either side, they are the operands raised
 
-abbrev sets : Role → Bool
-sets Starts = false
-sets Equates = false
-sets SetsCounter = true
-sets Ends = false
-sets Advances = false
+module _ (d : ℕ) (ns : List Name) (here : ℕ) where
+  abbrev up : List Name
+  up = map (raisedName d) ns
 
-only-org : (op : Operation) → sets (roleOf op) ≡ true → op ≡ Org
-only-org Unknown e = absurd (false≢true e)
-only-org Start e = absurd (false≢true e)
-only-org Equ e = absurd (false≢true e)
-only-org Org e = refl
-only-org Dc e = absurd (false≢true e)
-only-org Ds e = absurd (false≢true e)
-only-org Using e = absurd (false≢true e)
-only-org Drop e = absurd (false≢true e)
-only-org End e = absurd (false≢true e)
-only-org (Decimal low) e = absurd (false≢true e)
-only-org (Characters low) e = absurd (false≢true e)
-only-org Move e = absurd (false≢true e)
-only-org (MoveOf item) e = absurd (false≢true e)
-only-org (OneAddress low) e = absurd (false≢true e)
-only-org (Branch low) e = absurd (false≢true e)
-only-org LoadAddress e = absurd (false≢true e)
-only-org (BranchOn q) e = absurd (false≢true e)
-only-org Jump e = absurd (false≢true e)
-only-org (JumpOn q) e = absurd (false≢true e)
+  evaluated-raised : (w : Wanted) (e : Read (List (Addend Placed))) → refusalFor w (evaluated (find ns) here e) ≡ 0 → refusalFor w (evaluated (find up) (here + d) e) ≡ 0
+      → evaluated (find up) (here + d) e ≡ raisedEvaluated d (evaluated (find ns) here e)
+  evaluated-raised w e p q =
+      let x = accepted w (evaluated (find ns) here e) p in
+      let y = accepted w (evaluated (find up) (here + d) e) q in
+      y .good ∙ ap Good (expression-raised d ns here e _ _ (x .good) (y .good)) ∙ sym (ap (raisedEvaluated d) (x .good))
 
--- a line that reads so, is not START, and whose operand has its form
-module _ (d : ℕ) (s : List ℕ) (l : Line) (reads : readingOf s ≡ Statement l) (later : againNo (roleOf (l .operation)) ≡ 0) (formed : shapeNo (l .shape) ≡ 0) where
-  -- ORG's operand is relocatable
-  org-raised : l .operation ≡ Org → (look : ℕ → Entry) (here : ℕ) → expressionsNo (l .operation) (operandsAt look here s l) ≡ 0
-      → amountOf (loneValue (raisedOperands d (operandsAt look here s l))) ≡ amountOf (loneValue (operandsAt look here s l)) + d
-  unfolding operandsOf expressionsNo
-  org-raised e look here h =
-      let x : l .shape ≡ shapeOf Org (operandIn s l) = line-shape s l reads ∙ ap (λ op. shapeOf op (operandIn s l)) e in
-      let y : l .shape ≡ Shape.Expression = x ∙ org-shape (operandIn s l) (sym (ap shapeNo x) ∙ formed) in
-      rw y (relocatable-in d (evaluated look here (expressionAt (operandIn s l) 0)) (rw (e, y) at h))
+  module _ (o : List ℕ) where
+    item-raised : (i : Item) → itemNo (itemOf (find ns) here o i) ≡ 0 → itemNo (itemOf (find up) (here + d) o i) ≡ 0
+        → itemOf (find up) (here + d) o i ≡ raisedItem d (itemOf (find ns) here o i)
+    item-raised Item.Absent p q = refl
+    item-raised (Item.At x) p q = rw (evaluated-raised Wanted.OnlyAbsolute (expressionAt o x) p q)
 
-  module _ (ns : List Name) (here : ℕ) where
-    abbrev up : List Name
-    up = map (raisedName d) ns
+    address-raised : (a : Address) → addressNo (addressOf (find ns) here o a) ≡ 0 → addressNo (addressOf (find up) (here + d) o a) ≡ 0
+        → addressOf (find up) (here + d) o a ≡ raisedAddress d (addressOf (find ns) here o a)
+    address-raised a p q =
+        let (p₀, p₁) = lower-zero _ _ p in
+        let (p₂, p₃) = lower-zero _ _ p₁ in
+        let (q₀, q₁) = lower-zero _ _ q in
+        let (q₂, q₃) = lower-zero _ _ q₁ in
+        rw (evaluated-raised Wanted.Any (expressionAt o (a .at)) p₀ q₀, item-raised (a .length) p₂ q₂, item-raised (a .register) p₃ q₃, implied-raised d ns (termAt o (a .at)))
 
-    abbrev x₀ : Operands
-    x₀ = operandsAt (find ns) here s l
+    -- R13.6: none of 18, 19 and 20 on either side
+    operands-raised : (op : Operation) (x : Shape) → expressionsNo op (operandsOf (find ns) here o x) ≡ 0
+        → expressionsNo op (operandsOf (find up) (here + d) o x) ≡ 0
+        → operandsOf (find up) (here + d) o x ≡ raisedOperands d (operandsOf (find ns) here o x)
+    unfolding operandsOf expressionsNo
+    operands-raised op (Shape.Fails p) e f = refl
+    operands-raised op Shape.Nothing e f = refl
+    operands-raised op (Shape.StartAt n) e f = refl
+    operands-raised op Shape.Expression e f = ap Operands.Lone (evaluated-raised (firstWanted op) (expressionAt o 0) e f)
+    operands-raised op (Shape.Pair p) e f =
+        let (e₀, e₁) = lower-zero _ _ e in
+        let (f₀, f₁) = lower-zero _ _ f in
+        rw (evaluated-raised (firstWanted op) (expressionAt o 0) e₀ f₀, evaluated-raised Wanted.OnlyAbsolute (expressionAt o p) e₁ f₁)
+    operands-raised op Shape.Target e f = ap Operands.Lone (evaluated-raised (firstWanted op) (expressionAt o 0) e f)
+    operands-raised op (Shape.TwoAddresses a b) e f =
+        let (e₀, e₁) = lower-zero _ _ e in
+        let (f₀, f₁) = lower-zero _ _ f in
+        rw (address-raised a e₀ f₀, address-raised b e₁ f₁)
+    operands-raised op (Shape.AddressAndCode a x) e f =
+        let (e₀, e₁) = lower-zero _ _ e in
+        let (f₀, f₁) = lower-zero _ _ f in
+        rw (address-raised a e₀ f₀, evaluated-raised Wanted.OnlyAbsolute (expressionAt o x) e₁ f₁)
+    operands-raised op (Shape.LoneAddress a) e f = ap Operands.LoneAddress (address-raised a e f)
+    operands-raised op (Shape.Data c) e f = go (c .card) (c .kind) e f
+      where
+        x₀ : Operands
+        x₀ = Operands.AddressConstants (c .copies) (c .length) (evaluated (find ns) here (expressionAt o (c .value)))
 
-    abbrev x₁ : Operands
-    x₁ = operandsAt (find up) (here + d) s l
+        x₁ : Operands
+        x₁ = Operands.AddressConstants (c .copies) (c .length) (evaluated (find up) (here + d) (expressionAt o (c .value)))
 
-    at-raised : expressionsNo (l .operation) x₀ ≡ 0 → expressionsNo (l .operation) x₁ ≡ 0 → x₁ ≡ raisedOperands d x₀
-    at-raised h k = operands-raised d ns here (operandIn s l) (l .operation) (l .shape) h k
+        go : (card : DataCard) (k : DataType) → expressionsNo op (byCard card (byType k x₀)) ≡ 0 → expressionsNo op (byCard card (byType k x₁)) ≡ 0
+            → byCard card (byType k x₁) ≡ raisedOperands d (byCard card (byType k x₀))
+        go DataCard.Reserve k e f = refl
+        go DataCard.Constant DataType.Characters e f = refl
+        go DataCard.Constant DataType.Hexadecimal e f = refl
+        go DataCard.Constant DataType.Decimal e f = refl
+        go DataCard.Constant DataType.Address e f =
+            ap (Operands.AddressConstants (c .copies) (c .length)) (evaluated-raised (constantWanted (c .length)) (expressionAt o (c .value)) e f)
 
-    module _ (early : earlyNo (find ns) here s l ≡ 0) (early′ : earlyNo (find up) (here + d) s l ≡ 0) where
-      -- THE COUNTER
+-- A LINE that is not START
 
-      pub counter-raised : counterAfter (find up) (here + d) s l ≡ counterAfter (find ns) here s l + d
-      unfolding earlyNo counterAfter
-      counter-raised = go (roleOf (l .operation)) refl later early early′
-        where
-          go : (r : Role) → roleOf (l .operation) ≡ r → againNo r ≡ 0 → earlyBy r (l .operation) x₀ ≡ 0 → earlyBy r (l .operation) x₁ ≡ 0
-              → counterBy r x₁ (here + d) l ≡ counterBy r x₀ here l + d
-          go Starts e n h k = absurd (omega arith)
-          go Equates e n h k = refl
-          go SetsCounter e n h k = rw (at-raised h k) (org-raised (only-org (l .operation) (ap sets e)) (find ns) here h)
-          go Ends e n h k = refl
-          go Advances e n h k = omega arith
+module _ (d : ℕ) (s : List ℕ) (l : Line) (ns : List Name) (here : ℕ) where
+  abbrev x₀ : Operands
+  x₀ = operandsAt (find ns) here s l
 
-      -- THE NAME
+  abbrev x₁ : Operands
+  x₁ = operandsAt (find (up d ns here)) (here + d) s l
 
-      pub name-raised : dataNo (l .shape) ≡ 0 → nameValue (find up) (here + d) s l ≡ raisedValue d (nameValue (find ns) here s l)
-      unfolding earlyNo nameValue
-      name-raised sizes = go (roleOf (l .operation)) later early early′
-        where
-          -- m is at least 1, so that a name of DC or DS is no lower than the counter
-          place : (x : Shape) → dataNo x ≡ 0 → placeNamed (here + d) x ≡ placeNamed here x + d
-          place (Shape.Fails q) h = refl
-          place Shape.Nothing h = refl
-          place (Shape.StartAt v) h = refl
-          place Shape.Expression h = refl
-          place (Shape.Pair p) h = refl
-          place Shape.Target h = refl
-          place (Shape.Two a b) h = refl
-          place (Shape.One a p) h = refl
-          place (Shape.Only a) h = refl
-          place (Shape.Constant c) h = let m = constant-fine c h .some in omega arith
-          place (Shape.Reserve c) h = let m = reserve-fine c h .some in omega arith
+  at-raised : expressionsNo (l .operation) x₀ ≡ 0 → expressionsNo (l .operation) x₁ ≡ 0 → x₁ ≡ raisedOperands d x₀
+  at-raised h k = operands-raised d ns here (operandColumns s l) (l .operation) (l .shape) h k
 
-          go : (r : Role) → againNo r ≡ 0 → earlyBy r (l .operation) x₀ ≡ 0 → earlyBy r (l .operation) x₁ ≡ 0
-              → nameValueBy r x₁ (here + d) l ≡ raisedValue d (nameValueBy r x₀ here l)
-          go Starts n h k = absurd (omega arith)
-          go Equates n h k = rw (at-raised h k) (lone-raised d x₀)
-          go SetsCounter n h k = refl
-          go Ends n h k = refl
-          go Advances n h k = ap (λ (n : ℕ). Relocatable (record { 0 = n })) (place (l .shape) sizes)
+  pub value-raised : expressionsNo (l .operation) x₀ ≡ 0 → expressionsNo (l .operation) x₁ ≡ 0 → loneValue x₁ ≡ raisedMaybe d (loneValue x₀)
+  value-raised h k = ap loneValue (at-raised h k) ∙ lone-raised d x₀
 
-    -- THE BASES
+  module _ (later : againNo (roleOf (l .operation)) ≡ 0) (early : earlyNo (find ns) here s l ≡ 0) (early′ : earlyNo (find (up d ns here)) (here + d) s l ≡ 0) where
+    -- THE COUNTER
 
-    module _ (fine : expressionsNo (l .operation) x₀ ≡ 0) (fine′ : expressionsNo (l .operation) x₁ ≡ 0) (bases : Bases) where
-      with-base : (r : ℕ) (b : Base) → withBase (raisedBases d bases) r (raisedBase d b) ≡ raisedBases d (withBase bases r b)
-      with-base r b = go (eqb r 1) (eqb r 2)
-        where
-          go : (x y : Bool) → pick x (record { one = raisedBase d b; two = raisedBase d (bases .two) }) (pick y (record { one = raisedBase d (bases .one); two = raisedBase d b }) (raisedBases d bases))
-              ≡ raisedBases d (pick x (record { one = b; two = bases .two }) (pick y (record { one = bases .one; two = b }) bases))
-          go true y = refl
-          go false true = refl
-          go false false = refl
+    pub counter-raised : counterAfter (find (up d ns here)) (here + d) s l ≡ counterAfter (find ns) here s l + d
+    unfolding earlyNo counterAfter
+    counter-raised = go (roleOf (l .operation)) later early early′
+      where
+        by : (v : MaybeValue) → withRelocatable (onlyRelocatable (raisedMaybe d v)) (λ n. n) (here + d) ≡ withRelocatable (onlyRelocatable v) (λ n. n) here + d
+        by (MaybeValue.Is (Absolute a)) = refl
+        by (MaybeValue.Is (Relocatable a)) = refl
+        by MaybeValue.Nothing = refl
 
-      -- the registers of USING and DROP are absolute
-      abbrev Registered : Operation → Shape → Type 0
-      Registered op x =
-          expressionsNo op (operandsOf (find ns) here (operandIn s l) x) ≡ 0
-          → registeredBy (raisedOperands d (operandsOf (find ns) here (operandIn s l) x)) (raisedBases d bases)
-          ≡ raisedBases d (registeredBy (operandsOf (find ns) here (operandIn s l) x) bases)
+        go : (r : Role) → againNo r ≡ 0 → earlyBy r (l .operation) x₀ ≡ 0 → earlyBy r (l .operation) x₁ ≡ 0 → counterBy r (loneValue x₁) (here + d) l ≡ counterBy r (loneValue x₀) here l + d
+        go Role.Starts n h k = absurd (omega arith)
+        go Role.Equates n h k = refl
+        go Role.SetsCounter n h k = rw (value-raised h k) (by (loneValue x₀))
+        go Role.Ends n h k = refl
+        go Role.Advances n h k = omega arith
 
-      pair-registered : (p : ℕ) → Registered Using (Shape.Pair p)
-      unfolding operandsOf expressionsNo
-      pair-registered p h =
-          let e = evaluated (find ns) here (expressionAt (operandIn s l) 0) in
-          let r = evaluated (find ns) here (expressionAt (operandIn s l) p) in
-          rw (absolute-in d r (lower-zero _ _ h .1), value-in-raised d e) (with-base (amountIn r) (Base.Of (valueIn e)))
+    -- THE NAME
 
-      lone-registered : Registered Drop Shape.Expression
-      unfolding operandsOf expressionsNo
-      lone-registered h =
-          let r = evaluated (find ns) here (expressionAt (operandIn s l) 0) in
-          rw (absolute-in d r h) (with-base (amountIn r) Base.Idle)
+    pub name-raised : sizesNo (l .shape) ≡ 0 → nameValue (find (up d ns here)) (here + d) s l ≡ raisedMaybe d (nameValue (find ns) here s l)
+    unfolding earlyNo nameValue
+    name-raised sizes = go (roleOf (l .operation)) later early early′
+      where
+        -- m is at least 1, so that a name of DC or DS is no lower than the counter
+        some : (card : DataCard) (c : Data) → dataNoBy card c ≡ 0 → here + d + c .length - 1 ≡ here + c .length - 1 + d
+        some DataCard.Constant c h = let m = constant-fine c h .some in omega arith
+        some DataCard.Reserve c h = let m = reserve-fine c h .some in omega arith
 
-      none-registered : (op : Operation) (q : ℕ) → Registered op (Shape.Fails q)
-      unfolding operandsOf
-      none-registered op q h = refl
+        place : placeNamed (here + d) (l .shape) ≡ placeNamed here (l .shape) + d
+        place =
+            of-data (λ f. f ℕ dataNo 0 ≡ 0 → f ℕ (λ c. here + d + c .length - 1) (here + d) ≡ f ℕ (λ c. here + c .length - 1) here + d)
+            (λ c h. some (c .card) c h) (λ h. refl) (l .shape) sizes
 
-      by-use : (op : Operation) → l .shape ≡ shapeOf op (operandIn s l) → expressionsNo op x₀ ≡ 0
-          → basesAfter op (raisedOperands d x₀) (raisedBases d bases) ≡ raisedBases d (basesAfter op x₀ bases)
-      unfolding basesBy
-      by-use Unknown e h = refl
-      by-use Start e h = refl
-      by-use Equ e h = refl
-      by-use Org e h = refl
-      by-use Dc e h = refl
-      by-use Ds e h = refl
-      by-use Using e h = subst (Registered Using) (sym e) (pair-has (Registered Using) (none-registered Using) (operandIn s l) pair-registered) h
-      by-use Drop e h =
-          subst (Registered Drop) (sym e) (last-has (Registered Drop) (none-registered Drop) (operandIn s l) 0 Shape.Expression lone-registered) h
-      by-use End e h = refl
-      by-use (Decimal low) e h = refl
-      by-use (Characters low) e h = refl
-      by-use Move e h = refl
-      by-use (MoveOf item) e h = refl
-      by-use (OneAddress low) e h = refl
-      by-use (Branch low) e h = refl
-      by-use LoadAddress e h = refl
-      by-use (BranchOn q) e h = refl
-      by-use Jump e h = refl
-      by-use (JumpOn q) e h = refl
+        go : (r : Role) → againNo r ≡ 0 → earlyBy r (l .operation) x₀ ≡ 0 → earlyBy r (l .operation) x₁ ≡ 0 → nameValueBy r (loneValue x₁) (here + d) l ≡ raisedMaybe d (nameValueBy r (loneValue x₀) here l)
+        go Role.Starts n h k = absurd (omega arith)
+        go Role.Equates n h k = value-raised h k
+        go Role.SetsCounter n h k = refl
+        go Role.Ends n h k = refl
+        go Role.Advances n h k = ap (λ (n : ℕ). MaybeValue.Is (Relocatable (record { 0 = n }))) place
 
-      pub bases-raised : basesAfter (l .operation) x₁ (raisedBases d bases) ≡ raisedBases d (basesAfter (l .operation) x₀ bases)
-      bases-raised = rw (at-raised fine fine′) (by-use (l .operation) (line-shape s l reads) fine)
+  -- THE BASES AND THE TEXT
 
-      -- THE TEXT
+  module _ (fine : expressionsNo (l .operation) x₀ ≡ 0) (fine′ : expressionsNo (l .operation) x₁ ≡ 0) (bases : Bases) where
+    pub line-bases : basesAfter (l .operation) x₁ (raisedBases d bases) ≡ raisedBases d (basesAfter (l .operation) x₀ bases)
+    line-bases = rw (at-raised fine fine′) (bases-raised d (l .operation) x₀ bases)
 
-      plain-stays : (bs : List ℕ) → map plain bs ≡ map (raisedPiece d) (map plain bs)
-      plain-stays [] = refl
-      plain-stays (b ∷ bs) = ap (λ ps. plain b ∷ ps) (plain-stays bs)
+    plain-stays : (bs : List ℕ) → map plain bs ≡ map (raisedPiece d) (map plain bs)
+    plain-stays [] = refl
+    plain-stays (b ∷ bs) = ap (λ ps. plain b ∷ ps) (plain-stays bs)
 
-      pub line-pieces : linePieces (find up) (record { counter = here + d; bases = raisedBases d bases }) s l
-          ≡ map (raisedPiece d) (linePieces (find ns) (record { counter = here; bases = bases }) s l)
-      unfolding linePieces
-      line-pieces =
-          rw (at-raised fine fine′, pieces-raised d (l .operation) x₀ here bases fine) (go (l .shape) (piecesOf (statementFrom (l .operation) x₀ here bases)))
-        where
-          constant : (k : DataType) (bs : List ℕ) (ps : List Piece) → constantPieces k bs (map (raisedPiece d) ps) ≡ map (raisedPiece d) (constantPieces k bs ps)
-          constant DataType.Characters bs ps = plain-stays bs
-          constant DataType.Hexadecimal bs ps = plain-stays bs
-          constant DataType.Decimal bs ps = plain-stays bs
-          constant DataType.Address bs ps = refl
-
-          go : (x : Shape) (ps : List Piece) → shapePieces x (operandIn s l) (map (raisedPiece d) ps) ≡ map (raisedPiece d) (shapePieces x (operandIn s l) ps)
-          go (Shape.Fails q) ps = refl
-          go Shape.Nothing ps = refl
-          go (Shape.StartAt v) ps = refl
-          go Shape.Expression ps = refl
-          go (Shape.Pair p) ps = refl
-          go Shape.Target ps = refl
-          go (Shape.Two a b) ps = refl
-          go (Shape.One a p) ps = refl
-          go (Shape.Only a) ps = refl
-          go (Shape.Constant c) ps = constant (c .kind) (constantText (operandIn s l) c) ps
-          go (Shape.Reserve c) ps = refl
+    pub line-pieces : linePieces (find (up d ns here)) (record { counter = here + d; bases = raisedBases d bases }) s l
+        ≡ map (raisedPiece d) (linePieces (find ns) (record { counter = here; bases = bases }) s l)
+    unfolding linePieces
+    line-pieces =
+        let o = operandColumns s l in
+        let ps = piecesOf (statementFrom (l .operation) x₀ here bases) in
+        rw (at-raised fine fine′, pieces-raised d (l .operation) x₀ here bases fine)
+        (of-data (λ f. f (List Piece) (λ c. dataPieces (c .card) (c .kind) (constantText o c) (map (raisedPiece d) ps)) (map (raisedPiece d) ps)
+        ≡ map (raisedPiece d) (f (List Piece) (λ c. dataPieces (c .card) (c .kind) (constantText o c) ps) ps))
+        (λ c. data-pieces (c .card) (c .kind) (constantText o c) ps) refl (l .shape))
+      where
+        data-pieces : (card : DataCard) (k : DataType) (bs : List ℕ) (ps : List Piece) → dataPieces card k bs (map (raisedPiece d) ps) ≡ map (raisedPiece d) (dataPieces card k bs ps)
+        data-pieces DataCard.Constant DataType.Characters bs ps = plain-stays bs
+        data-pieces DataCard.Constant DataType.Hexadecimal bs ps = plain-stays bs
+        data-pieces DataCard.Constant DataType.Decimal bs ps = plain-stays bs
+        data-pieces DataCard.Constant DataType.Address bs ps = refl
+        data-pieces DataCard.Reserve k bs ps = refl

@@ -1,112 +1,71 @@
--- A card's operands and bases raised by d: Q, lengths, registers, displacement bytes and jump bytes stay, and its pieces are raised.
-use Prim.Native.Nat.{ℕ, zero, suc, _+_, _-_, _%_, _/_}
-use mathlib.Core.List.{List, [], _∷_, map, map-append}
-use mathlib.Core.Bool.{Bool, true, false, false≢true}
-use mathlib.Core.Path.{_≡_, refl, sym, ap, _∙_}
-use native.Mathlib.Omega.{arith}
-use lib.Dec.{leb, eqb}
-use borrow.Author.Tests.{le-leb, lt-leb, leb-true, leb-false, eqb-true}
+-- A card's operands and bases raised by d: Q, lengths, registers, displacement bytes and jump bytes stay, its bases and its pieces are raised.
+use Rattle.theorems.specs.Logic.{ℕ, zero, suc, _+_, _-_, _%_, _/_, List, [], _∷_, map, map-append, Bool, true, false, _≡_, refl, sym, ap, arith, leb, eqb, le-leb, lt-leb, leb-true, leb-false, eqb-true}
+use Rattle.theorems.specs.Types.{Value, MaybeValue, MaybeAbsolute, Evaluated, Operation, Use, Rule, EvaluatedItem, EvaluatedAddress, Operands, Base, Bases, Operand, Placed, Code, Statement, Piece, plain, value}
 use Rattle.values.specs.Tests.{pick, both}
-use Rattle.values.specs.declared.Absolute.{Absolute as Absolutely}
-use Rattle.values.specs.declared.Value.{Value}
-use Rattle.values.specs.declared.Value.the-variants.{Absolute, Relocatable}
-use Rattle.values.proofs.Refusals.{lower-zero}
-use Rattle.names.specs.Table.{amountOf}
+use Rattle.values.specs.declared.Wanted.the-variants.{Any, OnlyAbsolute}
+use Rattle.values.specs.Values.{withValue, withAbsolute}
+use Rattle.values.proofs.Laws.{clash}
 use Rattle.names.specs.Raised.{raisedValue}
-use Rattle.expressions.specs.declared.Wanted.the-variants.{Any, OnlyAbsolute, OnlyRelocatable}
-use Rattle.expressions.specs.declared.Evaluated.{Evaluated}
-use Rattle.expressions.specs.declared.Evaluated.the-variants.{Good, Malformed, Undefined, WrongKind, OutOfRange}
-use Rattle.expressions.specs.Value.{valueIn, kindOf, suits, refusalFor}
+use Rattle.expressions.specs.Value.{kindOf, suits, valueIn, absoluteIn}
 use Rattle.expressions.proofs.Laws.{accepted}
-use Rattle.operations.specs.declared.Operation.{Operation}
-use Rattle.operations.specs.declared.Operation.the-variants.{Unknown, Start, Equ, Org, Dc, Ds, Using, Drop, End, Decimal, Characters, Move, MoveOf, OneAddress, Branch, LoadAddress, BranchOn, Jump, JumpOn}
-use Rattle.statements.specs.declared.operands.Valued.{Valued}
-use Rattle.statements.specs.declared.operands.Place.{Place}
-use Rattle.statements.specs.declared.operands.Operands.{Operands}
-use Rattle.statements.specs.declared.codes.Rule.{Rule}
-use Rattle.statements.specs.declared.places.Base.{Base}
-use Rattle.statements.specs.declared.places.Bases.{Bases}
-use Rattle.statements.specs.declared.places.Operand.{Operand}
-use Rattle.statements.specs.declared.places.Placed.{Placed}
-use Rattle.statements.specs.declared.places.Use.{Use}
-use Rattle.statements.specs.declared.Statement.{Statement}
-use Rattle.statements.specs.Operands.{amountIn, amountOr}
-use Rattle.statements.specs.Kinds.{firstWanted, itemNo, placeNo, addressWanted, expressionsNo}
-use Rattle.statements.specs.Codes.{ruleOf, twoCode, behindCode, codeOf, codeByte}
-use Rattle.statements.specs.Places.{useOf, isRegister, awayFrom, displacedBy, indexedBy, byRegister, operandOf, operandIn, jumpCode}
-use Rattle.statements.specs.Statements.{jumpOf, statementFrom, loneValue}
-use Rattle.encode.specs.Pieces.{Piece, addressPieces, copied, piecesOf}
-use Rattle.encode.specs.Pieces.Piece.{plain, value}
-use Rattle.theorems.specs.Raised.{raisedEvaluated, raisedValued, raisedPlace, raisedOperands, raisedBase, raisedBases, raisedOperand, raisedPlaced, raisedPiece}
-use Rattle.theorems.proofs.Lines.{jumps}
+use Rattle.operations.specs.Traits.{useOf, ruleOf}
+use Rattle.operands.specs.Kinds.{constantWanted, expressionsNo}
+use Rattle.places.specs.Codes.{itemOr, twoCode, behindCode, codeOf}
+use Rattle.places.specs.Places.{isRegister, awayFrom, displacedBy, indexedBy, byRegister, operandOf, jumpCode, jumpTo, withBase, usingBase, dropBase, registeredBy, basesBy}
+use Rattle.statements.specs.Statements.{nextOf, twoOf, oneOf, jumpOf, statementFrom, basesAfter, loneValue}
+use Rattle.encode.specs.Pieces.{addressPieces, copied, piecesOf}
+use Rattle.theorems.specs.Raised.{raisedMaybe, raisedEvaluated, raisedItem, raisedAddress, raisedOperands, raisedBase, raisedBases, raisedOperand, raisedPlaced, raisedPiece}
 
 module _ (d : ℕ) where
   -- VALUES
 
-  pub value-in-raised : (e : Evaluated) → valueIn (raisedEvaluated d e) ≡ raisedValue d (valueIn e)
-  value-in-raised (Good v) = refl
-  value-in-raised Malformed = refl
-  value-in-raised Undefined = refl
-  value-in-raised WrongKind = refl
-  value-in-raised (OutOfRange k) = refl
+  value-in : (e : Evaluated) → valueIn (raisedEvaluated d e) ≡ raisedMaybe d (valueIn e)
+  value-in (Evaluated.Good v) = refl
+  value-in Evaluated.Malformed = refl
+  value-in Evaluated.Undefined = refl
+  value-in Evaluated.WrongKind = refl
+  value-in (Evaluated.OutOfRange k) = refl
 
-  -- a value of a kind that only absolute ones have stays
-  absolute-stays : (v : Value) → suits OnlyAbsolute (kindOf v) ≡ true → raisedValue d v ≡ v
-  absolute-stays (Absolute a) h = refl
-  absolute-stays (Relocatable a) h = absurd (false≢true h)
+  absolute-in : (e : Evaluated) → absoluteIn (raisedEvaluated d e) ≡ absoluteIn e
+  absolute-in (Evaluated.Good (Value.Absolute a)) = refl
+  absolute-in (Evaluated.Good (Value.Relocatable a)) = refl
+  absolute-in Evaluated.Malformed = refl
+  absolute-in Evaluated.Undefined = refl
+  absolute-in Evaluated.WrongKind = refl
+  absolute-in (Evaluated.OutOfRange k) = refl
 
-  relocatable-moves : (v : Value) → suits OnlyRelocatable (kindOf v) ≡ true → amountOf (raisedValue d v) ≡ amountOf v + d
-  relocatable-moves (Absolute a) h = absurd (false≢true h)
-  relocatable-moves (Relocatable a) h = refl
-
-  pub absolute-in : (e : Evaluated) → refusalFor OnlyAbsolute e ≡ 0 → valueIn (raisedEvaluated d e) ≡ valueIn e
-  absolute-in e h = value-in-raised e ∙ absolute-stays (valueIn e) (accepted OnlyAbsolute e h .1)
-
-  pub relocatable-in : (e : Evaluated) → refusalFor OnlyRelocatable e ≡ 0 → amountIn (raisedEvaluated d e) ≡ amountIn e + d
-  relocatable-in e h = ap amountOf (value-in-raised e) ∙ relocatable-moves (valueIn e) (accepted OnlyRelocatable e h .1)
-
-  pub lone-raised : (x : Operands) → loneValue (raisedOperands d x) ≡ raisedValue d (loneValue x)
-  lone-raised (Operands.Two a b) = refl
-  lone-raised (Operands.One a q) = refl
-  lone-raised (Operands.Only a) = refl
+  pub lone-raised : (x : Operands) → loneValue (raisedOperands d x) ≡ raisedMaybe d (loneValue x)
+  lone-raised (Operands.TwoAddresses a b) = refl
+  lone-raised (Operands.AddressAndCode a q) = refl
+  lone-raised (Operands.LoneAddress a) = refl
   lone-raised (Operands.Pair e q) = refl
-  lone-raised (Operands.Lone e) = value-in-raised e
-  lone-raised (Operands.Addresses n m e) = refl
+  lone-raised (Operands.Lone e) = value-in e
+  lone-raised (Operands.AddressConstants n m e) = refl
   lone-raised Operands.None = refl
 
   -- Q
 
-  amount-stays : (e : Evaluated) → refusalFor OnlyAbsolute e ≡ 0 → amountIn (raisedEvaluated d e) ≡ amountIn e
-  amount-stays e h = ap amountOf (absolute-in e h)
+  item-stays : (i : EvaluatedItem) (other : MaybeAbsolute) → itemOr (raisedItem d i) other ≡ itemOr i other
+  item-stays EvaluatedItem.Absent other = refl
+  item-stays (EvaluatedItem.Of e) other = absolute-in e
 
-  item-stays : (v : Valued) (n : ℕ) → itemNo v ≡ 0 → amountOr (raisedValued d v) n ≡ amountOr v n
-  item-stays Valued.Absent n h = refl
-  item-stays (Valued.Of e) n h = amount-stays e h
+  two-code : (r : Rule) (a b : EvaluatedAddress) → twoCode r (raisedAddress d a) (raisedAddress d b) ≡ twoCode r a b
+  two-code Rule.Lengths a b = rw (item-stays (a .length), item-stays (b .length))
+  two-code Rule.Length a b = rw (item-stays (b .length), item-stays (a .length))
+  two-code Rule.Item a b = rw (item-stays (b .length), item-stays (a .length))
+  two-code Rule.Register a b = refl
+  two-code Rule.Written a b = refl
+  two-code (Rule.Given q) a b = refl
 
-  place-length : (p : Place) → placeNo p ≡ 0 → itemNo (p .length) ≡ 0
-  place-length p h = lower-zero _ _ (lower-zero _ _ h .1) .0
-
-  place-register : (p : Place) → placeNo p ≡ 0 → itemNo (p .register) ≡ 0
-  place-register p h = lower-zero _ _ (lower-zero _ _ h .1) .1
-
-  two-code : (r : Rule) (a b : Place) → placeNo a ≡ 0 → placeNo b ≡ 0 → twoCode r (raisedPlace d a) (raisedPlace d b) ≡ twoCode r a b
-  two-code Rule.Lengths a b h k = rw (item-stays (a .length) (a .implied) (place-length a h), item-stays (b .length) (b .implied) (place-length b k))
-  two-code Rule.Length a b h k =
-      rw (item-stays (b .length) (a .implied) (place-length b k), item-stays (a .length) (amountOr (b .length) (a .implied)) (place-length a h))
-  two-code Rule.Item a b h k = rw (item-stays (b .length) 0 (place-length b k), item-stays (a .length) (amountOr (b .length) 0) (place-length a h))
-  two-code Rule.Register a b h k = refl
-  two-code Rule.Written a b h k = refl
-  two-code (Rule.Given q) a b h k = refl
-
-  code-stays : (op : Operation) (x : Operands) → expressionsNo op x ≡ 0 → codeOf op (raisedOperands d x) ≡ codeOf op x
-  unfolding codeOf expressionsNo
-  code-stays op (Operands.Two a b) h = let (p, q) = lower-zero _ _ h in two-code (ruleOf op) a b p q
-  code-stays op (Operands.One a q) h = ap (behindCode (ruleOf op)) (amount-stays q (lower-zero _ _ h .1))
-  code-stays op (Operands.Only a) h = refl
-  code-stays op (Operands.Pair e q) h = ap (behindCode (ruleOf op)) (amount-stays q (lower-zero _ _ h .1))
-  code-stays op (Operands.Lone e) h = refl
-  code-stays op (Operands.Addresses n m e) h = refl
-  code-stays op Operands.None h = refl
+  code-stays : (op : Operation) (x : Operands) → codeOf op (raisedOperands d x) ≡ codeOf op x
+  unfolding codeOf
+  code-stays op (Operands.TwoAddresses a b) = two-code (ruleOf op) a b
+  code-stays op (Operands.AddressAndCode a q) = ap (behindCode (ruleOf op)) (absolute-in q)
+  code-stays op (Operands.LoneAddress a) = refl
+  code-stays op (Operands.Pair e q) = ap (behindCode (ruleOf op)) (absolute-in q)
+  code-stays op (Operands.Lone e) = refl
+  code-stays op (Operands.AddressConstants n m e) = refl
+  code-stays op Operands.None = refl
 
   -- OPERANDS
 
@@ -117,33 +76,19 @@ module _ (d : ℕ) where
       go true e = le-leb (a + d) (b + d) (omega (arith, leb-true a b e))
       go false e = lt-leb (a + d) (b + d) (omega (arith, leb-false a b e))
 
+  reach-raised : (b : Bool) (x : Operand) → pick b (Placed.At (raisedOperand d x)) Placed.OutOfReach ≡ raisedPlaced d (pick b (Placed.At x) Placed.OutOfReach)
+  reach-raised true x = refl
+  reach-raised false x = refl
+
   -- a value and the base that it is measured from are both d higher: the displacement stays
-  away-raised : (v : Value) (r from amount : ℕ) → awayFrom (raisedValue d v) r (from + d) (amount + d) ≡ raisedPlaced d (awayFrom v r from amount)
-  unfolding awayFrom
-  away-raised v r from amount =
-      let e : amount + d - (from + d) ≡ amount - from = omega arith in
-      rw (leb-both from amount, e) (go (both (leb from amount) (leb (amount - from) 255)))
-    where
-      go : (b : Bool) → pick b (Placed.At (Operand.Indexed (raisedValue d v) r (amount - from))) Placed.OutOfReach
-          ≡ raisedPlaced d (pick b (Placed.At (Operand.Indexed v r (amount - from))) Placed.OutOfReach)
-      go true = refl
-      go false = refl
-
-  away-absolute : (a : Absolutely) (r from amount : ℕ) → awayFrom (Absolute a) r from amount ≡ raisedPlaced d (awayFrom (Absolute a) r from amount)
-  unfolding awayFrom
-  away-absolute a r from amount = go (both (leb from amount) (leb (amount - from) 255))
-    where
-      go : (b : Bool) → pick b (Placed.At (Operand.Indexed (Absolute a) r (amount - from))) Placed.OutOfReach
-          ≡ raisedPlaced d (pick b (Placed.At (Operand.Indexed (Absolute a) r (amount - from))) Placed.OutOfReach)
-      go true = refl
-      go false = refl
-
   displaced-raised : (v : Value) (r : ℕ) (base : Base) → displacedBy (raisedValue d v) r (raisedBase d base) ≡ raisedPlaced d (displacedBy v r base)
-  unfolding displacedBy
-  displaced-raised (Absolute a) r base = away-absolute a r 0 (a .0)
-  displaced-raised (Relocatable a) r Base.Idle = refl
-  displaced-raised (Relocatable a) r (Base.Of (Absolute b)) = refl
-  displaced-raised (Relocatable a) r (Base.Of (Relocatable b)) = away-raised (Relocatable a) r (b .0) (a .0)
+  unfolding displacedBy awayFrom
+  displaced-raised (Value.Absolute a) r base = reach-raised (both (leb 0 (a .0)) (leb (a .0 - 0) 255)) (Operand.Indexed (Value.Absolute a) r (a .0 - 0))
+  displaced-raised (Value.Relocatable a) r Base.Idle = refl
+  displaced-raised (Value.Relocatable a) r (Base.Of (Value.Absolute b)) = refl
+  displaced-raised (Value.Relocatable a) r (Base.Of (Value.Relocatable b)) =
+      let e : a .0 + d - (b .0 + d) ≡ a .0 - b .0 = omega arith in
+      rw (leb-both (b .0) (a .0), e) (reach-raised (both (leb (b .0) (a .0)) (leb (a .0 - b .0) 255)) (Operand.Indexed (Value.Relocatable a) r (a .0 - b .0)))
 
   indexed-raised : (bases : Bases) (v : Value) (r : ℕ) → indexedBy (raisedBases d bases) (raisedValue d v) r ≡ raisedPlaced d (indexedBy bases v r)
   unfolding indexedBy
@@ -155,128 +100,160 @@ module _ (d : ℕ) where
       go true false = displaced-raised v r (bases .two)
       go false c = refl
 
-  operand-raised : (bases : Bases) (p : Place) → placeNo p ≡ 0 → operandIn (operandOf (raisedBases d bases) (raisedPlace d p)) ≡ raisedOperand d (operandIn (operandOf bases p))
+  operand-raised : (bases : Bases) (a : EvaluatedAddress) → operandOf (raisedBases d bases) (raisedAddress d a) ≡ raisedPlaced d (operandOf bases a)
   unfolding operandOf
-  operand-raised bases p h = rw (value-in-raised (p .address)) (ap operandIn (go (p .register) (place-register p h)) ∙ inside (byRegister bases (valueIn (p .address)) (p .register)))
+  operand-raised bases a = rw (value-in (a .address)) (go (valueIn (a .address)))
     where
-      inside : (x : Placed) → operandIn (raisedPlaced d x) ≡ raisedOperand d (operandIn x)
-      inside (Placed.At x) = refl
-      inside Placed.NoBase = refl
-      inside Placed.OutOfReach = refl
+      by : (v : Value) (r : MaybeAbsolute) → withAbsolute r (indexedBy (raisedBases d bases) (raisedValue d v)) Placed.Nothing ≡ raisedPlaced d (withAbsolute r (indexedBy bases v) Placed.Nothing)
+      by v (MaybeAbsolute.Is r) = indexed-raised bases v (r .0)
+      by v MaybeAbsolute.Nothing = refl
 
-      go : (r : Valued) → itemNo r ≡ 0 → byRegister (raisedBases d bases) (raisedValue d (valueIn (p .address))) (raisedValued d r) ≡ raisedPlaced d (byRegister bases (valueIn (p .address)) r)
-      go Valued.Absent h = refl
-      go (Valued.Of e) h = rw (amount-stays e h) (indexed-raised bases (valueIn (p .address)) (amountIn e))
+      at : (v : Value) (i : EvaluatedItem) → byRegister (raisedBases d bases) (raisedValue d v) (raisedItem d i) ≡ raisedPlaced d (byRegister bases v i)
+      at v EvaluatedItem.Absent = refl
+      at v (EvaluatedItem.Of e) = rw (absolute-in e) (by v (absoluteIn e))
 
-  -- JUMPS
+      go : (m : MaybeValue) → withValue (raisedMaybe d m) (λ v. byRegister (raisedBases d bases) v (raisedItem d (a .register))) Placed.Nothing
+          ≡ raisedPlaced d (withValue m (λ v. byRegister bases v (a .register)) Placed.Nothing)
+      go (MaybeValue.Is v) = at v (a .register)
+      go MaybeValue.Nothing = refl
 
   -- the target and the next instruction are both d higher
-  jump-stays : (here : ℕ) (e : Evaluated) → refusalFor OnlyRelocatable e ≡ 0 → jumpCode (here + d) (valueIn (raisedEvaluated d e)) ≡ jumpCode here (valueIn e)
+  jump-stays : (next : ℕ) (e : Evaluated) → jumpTo (next + d) (raisedEvaluated d e) ≡ jumpTo next e
   unfolding jumpCode
-  jump-stays here e h =
-      let n : here + d + 3 ≡ here + 3 + d = omega arith in
-      let s : amountIn e + d - (here + 3 + d) ≡ amountIn e - (here + 3) = omega arith in
-      rw (relocatable-in e h, n, leb-both (here + 3) (amountIn e), s)
+  jump-stays next (Evaluated.Good (Value.Absolute a)) = refl
+  jump-stays next (Evaluated.Good (Value.Relocatable a)) =
+      let s : a .0 + d - (next + d) ≡ a .0 - next = omega arith in
+      rw (leb-both next (a .0), s)
+  jump-stays next Evaluated.Malformed = refl
+  jump-stays next Evaluated.Undefined = refl
+  jump-stays next Evaluated.WrongKind = refl
+  jump-stays next (Evaluated.OutOfRange k) = refl
 
-  jump-wants : (op : Operation) → jumps (useOf op) ≡ true → firstWanted op ≡ OnlyRelocatable
-  jump-wants Unknown e = absurd (false≢true e)
-  jump-wants Start e = absurd (false≢true e)
-  jump-wants Equ e = absurd (false≢true e)
-  jump-wants Org e = refl
-  jump-wants Dc e = absurd (false≢true e)
-  jump-wants Ds e = absurd (false≢true e)
-  jump-wants Using e = absurd (false≢true e)
-  jump-wants Drop e = absurd (false≢true e)
-  jump-wants End e = refl
-  jump-wants (Decimal low) e = absurd (false≢true e)
-  jump-wants (Characters low) e = absurd (false≢true e)
-  jump-wants Move e = absurd (false≢true e)
-  jump-wants (MoveOf item) e = absurd (false≢true e)
-  jump-wants (OneAddress low) e = absurd (false≢true e)
-  jump-wants (Branch low) e = absurd (false≢true e)
-  jump-wants LoadAddress e = absurd (false≢true e)
-  jump-wants (BranchOn q) e = absurd (false≢true e)
-  jump-wants Jump e = refl
-  jump-wants (JumpOn q) e = refl
+  -- BASES
 
-  jump-of : (op : Operation) (u : Use) (q here : ℕ) (e : Evaluated) → useOf op ≡ u → refusalFor (firstWanted op) e ≡ 0
-      → jumpOf u q (here + d) (valueIn (raisedEvaluated d e)) ≡ jumpOf u q here (valueIn e)
-  jump-of op Use.Jumps q here e k h = rw (jump-stays here e (rw (jump-wants op (ap jumps k)) at h))
-  jump-of op Use.Registers q here e k h = refl
-  jump-of op Use.Nothing q here e k h = refl
+  with-base : (bases : Bases) (r : ℕ) (b : Base) → withBase (raisedBases d bases) r (raisedBase d b) ≡ raisedBases d (withBase bases r b)
+  with-base bases r b = go (eqb r 1) (eqb r 2)
+    where
+      go : (x y : Bool) → pick x (record { one = raisedBase d b; two = raisedBase d (bases .two) }) (pick y (record { one = raisedBase d (bases .one); two = raisedBase d b }) (raisedBases d bases))
+          ≡ raisedBases d (pick x (record { one = b; two = bases .two }) (pick y (record { one = bases .one; two = b }) bases))
+      go true y = refl
+      go false true = refl
+      go false false = refl
 
-  -- a jump has no value among its pieces
-  jump-pieces : (u : Use) (q here : ℕ) (v : Value) → piecesOf (jumpOf u q here v) ≡ map (raisedPiece d) (piecesOf (jumpOf u q here v))
-  unfolding piecesOf
-  jump-pieces Use.Jumps q here v = refl
-  jump-pieces Use.Registers q here v = refl
-  jump-pieces Use.Nothing q here v = refl
+  pub bases-raised : (op : Operation) (x : Operands) (bases : Bases) → basesAfter op (raisedOperands d x) (raisedBases d bases) ≡ raisedBases d (basesAfter op x bases)
+  unfolding basesBy
+  bases-raised op x bases = go (useOf op)
+    where
+      used : (r : MaybeAbsolute) (v : MaybeValue) → usingBase (raisedBases d bases) r (raisedMaybe d v) ≡ raisedBases d (usingBase bases r v)
+      used (MaybeAbsolute.Is r) (MaybeValue.Is v) = with-base bases (r .0) (Base.Of v)
+      used (MaybeAbsolute.Is r) MaybeValue.Nothing = refl
+      used MaybeAbsolute.Nothing v = refl
+
+      dropped : (r : MaybeAbsolute) → dropBase (raisedBases d bases) r ≡ raisedBases d (dropBase bases r)
+      dropped (MaybeAbsolute.Is r) = with-base bases (r .0) Base.Idle
+      dropped MaybeAbsolute.Nothing = refl
+
+      registered : (x : Operands) → registeredBy (raisedOperands d x) (raisedBases d bases) ≡ raisedBases d (registeredBy x bases)
+      registered (Operands.TwoAddresses a b) = refl
+      registered (Operands.AddressAndCode a q) = refl
+      registered (Operands.LoneAddress a) = refl
+      registered (Operands.Pair e r) = rw (absolute-in r, value-in e) (used (absoluteIn r) (valueIn e))
+      registered (Operands.Lone r) = rw (absolute-in r) (dropped (absoluteIn r))
+      registered (Operands.AddressConstants n m e) = refl
+      registered Operands.None = refl
+
+      go : (u : Use) → basesBy u (raisedOperands d x) (raisedBases d bases) ≡ raisedBases d (basesBy u x bases)
+      go Use.Jumps = refl
+      go Use.Registers = registered x
+      go Use.Nothing = refl
 
   -- PIECES
 
-  two-pieces : (op : Operation) (q : ℕ) (a b : Operand)
-      → piecesOf (Statement.Two op q (raisedOperand d a) (raisedOperand d b)) ≡ map (raisedPiece d) (piecesOf (Statement.Two op q a b))
+  one-pieces : (op : Operation) (c : Code) (a : Placed) → piecesOf (oneOf op c (raisedPlaced d a)) ≡ map (raisedPiece d) (piecesOf (oneOf op c a))
   unfolding piecesOf
-  two-pieces op q (Operand.Direct v) (Operand.Direct w) = refl
-  two-pieces op q (Operand.Direct v) (Operand.Indexed w r x) = refl
-  two-pieces op q (Operand.Indexed v r x) (Operand.Direct w) = refl
-  two-pieces op q (Operand.Indexed v r x) (Operand.Indexed w s y) = refl
+  one-pieces op (Code.Byte q) (Placed.At (Operand.Direct v)) = refl
+  one-pieces op (Code.Byte q) (Placed.At (Operand.Indexed v r x)) = refl
+  one-pieces op (Code.Byte q) Placed.NoBase = refl
+  one-pieces op (Code.Byte q) Placed.OutOfReach = refl
+  one-pieces op (Code.Byte q) Placed.Nothing = refl
+  one-pieces op Code.OutOfRange a = refl
+  one-pieces op Code.Nothing a = refl
 
-  one-pieces : (op : Operation) (q : ℕ) (a : Operand) → piecesOf (Statement.One op q (raisedOperand d a)) ≡ map (raisedPiece d) (piecesOf (Statement.One op q a))
+  two-pieces : (op : Operation) (c : Code) (a b : Placed) → piecesOf (twoOf op c (raisedPlaced d a) (raisedPlaced d b)) ≡ map (raisedPiece d) (piecesOf (twoOf op c a b))
   unfolding piecesOf
-  one-pieces op q (Operand.Direct v) = refl
-  one-pieces op q (Operand.Indexed v r x) = refl
+  two-pieces op (Code.Byte q) (Placed.At (Operand.Direct v)) (Placed.At (Operand.Direct w)) = refl
+  two-pieces op (Code.Byte q) (Placed.At (Operand.Direct v)) (Placed.At (Operand.Indexed w s y)) = refl
+  two-pieces op (Code.Byte q) (Placed.At (Operand.Indexed v r x)) (Placed.At (Operand.Direct w)) = refl
+  two-pieces op (Code.Byte q) (Placed.At (Operand.Indexed v r x)) (Placed.At (Operand.Indexed w s y)) = refl
+  two-pieces op (Code.Byte q) (Placed.At x) Placed.NoBase = refl
+  two-pieces op (Code.Byte q) (Placed.At x) Placed.OutOfReach = refl
+  two-pieces op (Code.Byte q) (Placed.At x) Placed.Nothing = refl
+  two-pieces op (Code.Byte q) Placed.NoBase b = refl
+  two-pieces op (Code.Byte q) Placed.OutOfReach b = refl
+  two-pieces op (Code.Byte q) Placed.Nothing b = refl
+  two-pieces op Code.OutOfRange a b = refl
+  two-pieces op Code.Nothing a b = refl
 
-  -- "A relocatable value needs m = 2": of another length it is absolute and stays
-  address-pieces : (m : ℕ) (e : Evaluated) → refusalFor (addressWanted m) e ≡ 0 → addressPieces m (valueIn (raisedEvaluated d e)) ≡ map (raisedPiece d) (addressPieces m (valueIn e))
+  -- a jump has no value among its pieces
+  jump-pieces : (u : Use) (c reach : Code) → piecesOf (jumpOf u c reach) ≡ map (raisedPiece d) (piecesOf (jumpOf u c reach))
+  unfolding piecesOf
+  jump-pieces Use.Jumps (Code.Byte q) (Code.Byte b) = refl
+  jump-pieces Use.Jumps (Code.Byte q) Code.OutOfRange = refl
+  jump-pieces Use.Jumps (Code.Byte q) Code.Nothing = refl
+  jump-pieces Use.Jumps Code.OutOfRange reach = refl
+  jump-pieces Use.Jumps Code.Nothing reach = refl
+  jump-pieces Use.Registers c reach = refl
+  jump-pieces Use.Nothing c reach = refl
+
+  -- R8.12: of another length than 2 it is absolute and stays
+  address-pieces : (m : ℕ) (v : Value) → suits (constantWanted m) (kindOf v) ≡ true → addressPieces m (raisedValue d v) ≡ map (raisedPiece d) (addressPieces m v)
   unfolding addressPieces
-  address-pieces m e h = go (eqb m 1) refl (eqb m 3) refl (eqb m 2) refl h
+  address-pieces m (Value.Absolute a) h = go (eqb m 1) (eqb m 3)
     where
-      go : (x : Bool) → eqb m 1 ≡ x → (y : Bool) → eqb m 3 ≡ y → (z : Bool) → eqb m 2 ≡ z → refusalFor (pick z Any OnlyAbsolute) e ≡ 0
-          → pick x (plain (amountIn (raisedEvaluated d e) % 256) ∷ [])
-          (pick y (plain 0 ∷ plain (amountIn (raisedEvaluated d e) / 256 % 256) ∷ plain (amountIn (raisedEvaluated d e) % 256) ∷ []) (value (valueIn (raisedEvaluated d e)) ∷ []))
-          ≡ map (raisedPiece d)
-          (pick x (plain (amountIn e % 256) ∷ [])
-          (pick y (plain 0 ∷ plain (amountIn e / 256 % 256) ∷ plain (amountIn e % 256) ∷ []) (value (valueIn e) ∷ [])))
-      go true p y q true r h = absurd (omega (arith, eqb-true m 1 p, eqb-true m 2 r))
-      go true p y q false r h = rw (absolute-in e h)
-      go false p true q true r h = absurd (omega (arith, eqb-true m 3 q, eqb-true m 2 r))
-      go false p true q false r h = rw (absolute-in e h)
-      go false p false q z r h = rw (value-in-raised e)
+      go : (x y : Bool) → pick x (plain (a .0 % 256) ∷ []) (pick y (plain 0 ∷ plain (a .0 / 256 % 256) ∷ plain (a .0 % 256) ∷ []) (value (Value.Absolute a) ∷ []))
+          ≡ map (raisedPiece d) (pick x (plain (a .0 % 256) ∷ []) (pick y (plain 0 ∷ plain (a .0 / 256 % 256) ∷ plain (a .0 % 256) ∷ []) (value (Value.Absolute a) ∷ [])))
+      go true y = refl
+      go false true = refl
+      go false false = refl
+  address-pieces m (Value.Relocatable a) h = go (eqb m 2) refl h
+    where
+      go : (x : Bool) → eqb m 2 ≡ x → suits (pick x Any OnlyAbsolute) (kindOf (Value.Relocatable a)) ≡ true
+          → addressPieces m (Value.Relocatable (record { 0 = a .0 + d })) ≡ map (raisedPiece d) (addressPieces m (Value.Relocatable a))
+      go true e h = rw (eqb-true m 2 e)
+      go false e h = clash (cc)
 
   copied-raised : (n : ℕ) (ps : List Piece) → copied n (map (raisedPiece d) ps) ≡ map (raisedPiece d) (copied n ps)
   unfolding copied
   copied-raised zero ps = refl
   copied-raised (suc n) ps = rw (copied-raised n ps) (sym (map-append (raisedPiece d) ps (copied n ps)))
 
-  addresses-pieces : (n m : ℕ) (e : Evaluated) → refusalFor (addressWanted m) e ≡ 0
-      → piecesOf (Statement.Addresses n m (valueIn (raisedEvaluated d e))) ≡ map (raisedPiece d) (piecesOf (Statement.Addresses n m (valueIn e)))
-  unfolding piecesOf
-  addresses-pieces n m e h = rw (address-pieces m e h) (copied-raised n (addressPieces m (valueIn e)))
+  next : (op : Operation) (here : ℕ) → nextOf op (here + d) ≡ nextOf op here + d
+  next op here = omega arith
 
-  none-pieces : piecesOf Statement.None ≡ map (raisedPiece d) (piecesOf Statement.None)
+  constants-raised : (n m : ℕ) (v : Value) → suits (constantWanted m) (kindOf v) ≡ true
+      → piecesOf (Statement.AddressConstants n m (raisedValue d v)) ≡ map (raisedPiece d) (piecesOf (Statement.AddressConstants n m v))
   unfolding piecesOf
-  none-pieces = refl
+  constants-raised n m v h = rw (address-pieces m v h) (copied-raised n (addressPieces m v))
+
+  none-raised : piecesOf Statement.None ≡ map (raisedPiece d) (piecesOf Statement.None)
+  unfolding piecesOf
+  none-raised = refl
 
   -- a statement's pieces are raised where no expression of its card is refused
   pub pieces-raised : (op : Operation) (x : Operands) (here : ℕ) (bases : Bases) → expressionsNo op x ≡ 0
       → piecesOf (statementFrom op (raisedOperands d x) (here + d) (raisedBases d bases)) ≡ map (raisedPiece d) (piecesOf (statementFrom op x here bases))
   unfolding statementFrom expressionsNo
-  pieces-raised op (Operands.Two a b) here bases h =
-      let (p, q) = lower-zero _ _ h in
-      rw (code-stays op (Operands.Two a b) h, operand-raised bases a p, operand-raised bases b q)
-      (two-pieces op (codeByte (codeOf op (Operands.Two a b))) (operandIn (operandOf bases a)) (operandIn (operandOf bases b)))
-  pieces-raised op (Operands.One a q) here bases h =
-      rw (code-stays op (Operands.One a q) h, operand-raised bases a (lower-zero _ _ h .0))
-      (one-pieces op (codeByte (codeOf op (Operands.One a q))) (operandIn (operandOf bases a)))
-  pieces-raised op (Operands.Only a) here bases h =
-      rw (code-stays op (Operands.Only a) h, operand-raised bases a h)
-      (one-pieces op (codeByte (codeOf op (Operands.Only a))) (operandIn (operandOf bases a)))
+  pieces-raised op (Operands.TwoAddresses a b) here bases h =
+      rw (code-stays op (Operands.TwoAddresses a b), operand-raised bases a, operand-raised bases b) (two-pieces op (codeOf op (Operands.TwoAddresses a b)) (operandOf bases a) (operandOf bases b))
+  pieces-raised op (Operands.AddressAndCode a q) here bases h =
+      rw (code-stays op (Operands.AddressAndCode a q), operand-raised bases a) (one-pieces op (codeOf op (Operands.AddressAndCode a q)) (operandOf bases a))
+  pieces-raised op (Operands.LoneAddress a) here bases h =
+      rw (code-stays op (Operands.LoneAddress a), operand-raised bases a) (one-pieces op (codeOf op (Operands.LoneAddress a)) (operandOf bases a))
   pieces-raised op (Operands.Pair e q) here bases h =
-      rw (code-stays op (Operands.Pair e q) h, jump-of op (useOf op) (codeByte (codeOf op (Operands.Pair e q))) here e refl (lower-zero _ _ h .0))
-      (jump-pieces (useOf op) (codeByte (codeOf op (Operands.Pair e q))) here (valueIn e))
+      rw (code-stays op (Operands.Pair e q), next op here, jump-stays (nextOf op here) e) (jump-pieces (useOf op) (codeOf op (Operands.Pair e q)) (jumpTo (nextOf op here) e))
   pieces-raised op (Operands.Lone e) here bases h =
-      rw (code-stays op (Operands.Lone e) h, jump-of op (useOf op) (codeByte (codeOf op (Operands.Lone e))) here e refl h)
-      (jump-pieces (useOf op) (codeByte (codeOf op (Operands.Lone e))) here (valueIn e))
-  pieces-raised op (Operands.Addresses n m e) here bases h = addresses-pieces n m e h
-  pieces-raised op Operands.None here bases h = none-pieces
+      rw (code-stays op (Operands.Lone e), next op here, jump-stays (nextOf op here) e) (jump-pieces (useOf op) (codeOf op (Operands.Lone e)) (jumpTo (nextOf op here) e))
+  pieces-raised op (Operands.AddressConstants n m e) here bases h =
+      let x = accepted (constantWanted m) e h in
+      rw (x .good) (constants-raised n m (x .value) (x .kind))
+  pieces-raised op Operands.None here bases h = none-raised

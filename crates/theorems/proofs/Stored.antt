@@ -1,49 +1,37 @@
--- LOADED (demand 2): "loading puts exactly those bytes into storage". Each byte of a record's moved text is in storage at its place plus the displacement,
+-- LOADED (R21.3, R17.2). Each byte of a record's moved text is in storage at its place plus the displacement,
 -- where no later record overlays it; every other place is as it was (`storage-other`).
-use Prim.Native.Nat.{ℕ, _+_, _≤_, _<_}
-use mathlib.Core.List.{List, [], _∷_, _++_}
-use mathlib.Core.Bool.{true}
-use mathlib.Core.Option.{some}
-use mathlib.Core.Path.{_≡_, ap, _∙_, subst}
-use native.Mathlib.Omega.{arith}
-use lib.ListN.{length, getD}
-use lib.Seq.{sets, length-sets}
-use borrow.Author.Tests.{ltb-false}
-use Rattle.values.specs.declared.Displacement.{Displacement}
-use Rattle.book.specs.declared.Entry.{Entry}
-use Rattle.book.specs.Book.{Record, Book, bookOf}
+use Rattle.theorems.specs.Logic.{ℕ, _+_, _≤_, _<_, List, [], _∷_, _++_, true, some, _≡_, ap, _∙_, arith, length, getD}
+use Rattle.theorems.specs.Types.{Displacement, Entry, Record, Book}
+use Rattle.book.specs.Book.{bookOf}
 use Rattle.book.specs.Writing.{fairAll}
 use Rattle.fields.specs.Fields.{movedText}
 use Rattle.fields.proofs.Laws.{moved-length}
 use Rattle.load.specs.declared.Loaded.the-variants.{Stored}
 use Rattle.load.specs.Load.{Outcome, stored, storedAll, firstCard, outside, roomIn, loading}
-use Rattle.load.proofs.Laws.{none-fails}
-use Rattle.theorems.proofs.Stores.{sets-there}
-use Rattle.theorems.proofs.Loads.{Load, load, fair-first, read-fair}
-use Rattle.theorems.proofs.Loads.Load.{isBroken, isOutside, isOver, isEntryOver, isStored}
-use Rattle.theorems.proofs.Untouched.{OutsideAll, stored-other}
+use Rattle.load.proofs.Laws.{none-fails, inside-is, stored-is}
+use Rattle.theorems.proofs.Untouched.{sets-there, OutsideAll, stored-size, stored-other}
+use Rattle.book.proofs.Written.{fair-first, read-fair}
+use Rattle.theorems.proofs.Outcomes.{Load, load}
 
 -- THE BYTES OF A RECORD
 
-stored-holds : (d room : ℕ) (before : List Record) (r : Record) (later : List Record) (m : List ℕ) (last : ℕ)
+stored-holds : (d : Displacement) (room : ℕ) (before : List Record) (r : Record) (later : List Record) (m : List ℕ) (last : ℕ)
     → fairAll last (before ++ r ∷ later) ≡ true → room ≤ length m → firstCard (outside d room) (before ++ r ∷ later) ≡ 0
-    → (i : ℕ) → i < length (r .text) → OutsideAll d (r .address + d + i) later
-    → getD (storedAll d (before ++ r ∷ later) m) (r .address + d + i) 0 ≡ getD (movedText d r) i 0
-unfolding storedAll stored
+    → (i : ℕ) → i < length (r .text) → OutsideAll d (r .address + d .0 + i) later
+    → getD (storedAll d (before ++ r ∷ later) m) (r .address + d .0 + i) 0 ≡ getD (movedText d r) i 0
+unfolding storedAll
 stored-holds d room [] r later m last f low e i h out =
-    let (is, others) = fair-first last r later f in
-    let rise = is .rise in
+    let rise = fair-first last r later f .0 .rise in
     let (inside, rest) = none-fails (outside d room) r later (omega arith) e in
-    let ends = ltb-false room (r .address + d + length (r .text)) inside in
+    let (at, ends) = inside-is d room r inside in
     let size = moved-length d (r .text) (r .fields) (r .text) in
-    stored-other d later (sets m (r .address + d) (movedText d r)) (r .address + d + i) out
-    ∙ sets-there m (r .address + d) (movedText d r) i (omega arith) (omega arith)
+    stored-other d later (stored d r m) (r .address + d .0 + i) out
+    ∙ ap (λ x. getD x (r .address + d .0 + i) 0) (stored-is d r m at) ∙ sets-there m (r .address + d .0) (movedText d r) i (omega arith) (omega arith)
 stored-holds d room (q ∷ before) r later m last f low e i h out =
     let (is, others) = fair-first last q (before ++ r ∷ later) f in
-    let rise = is .rise in
     let (inside, rest) = none-fails (outside d room) q (before ++ r ∷ later) (omega arith) e in
-    let size = length-sets m (q .address + d) (movedText d q) in
-    stored-holds d room before r later (sets m (q .address + d) (movedText d q)) (q .card) others (omega arith) rest i h out
+    let size = stored-size d q m in
+    stored-holds d room before r later (stored d q m) (q .card) others (omega arith) rest i h out
 
 module _ (s : List ℕ) (d : Displacement) (m : List ℕ) where
   abbrev loaded : Outcome
@@ -52,20 +40,13 @@ module _ (s : List ℕ) (d : Displacement) (m : List ℕ) where
   -- byte i of a record's text, the displacement added to its listed fields, is in storage at its place, where no later record overlays it
   pub storage-holds : (bytes : ℕ) (at : Entry) → loaded .answer ≡ Stored bytes at → (b : Book) → bookOf s ≡ some b
       → (before : List Record) (r : Record) (later : List Record) → b .records ≡ before ++ r ∷ later
-      → (i : ℕ) → i < length (r .text) → OutsideAll (d .0) (r .address + d .0 + i) later
-      → getD (loaded .storage) (r .address + d .0 + i) 0 ≡ getD (movedText (d .0) r) i 0
-  storage-holds bytes at a b q before r later rs i h out = go (load s d m)
+      → (i : ℕ) → i < length (r .text) → OutsideAll d (r .address + d .0 + i) later
+      → getD (loaded .storage) (r .address + d .0 + i) 0 ≡ getD (movedText d r) i 0
+  storage-holds bytes at a b q before r later rs i h out = go (rw a at (load s d m))
     where
-      go : Load s d m → getD (loaded .storage) (r .address + d .0 + i) 0 ≡ getD (movedText (d .0) r) i 0
-      go (isBroken f e) = let z : _≡_ {A = ℕ} 0 1 = cc in absurd (omega arith)
-      go (isOutside c f n e) = let z : _≡_ {A = ℕ} 0 1 = cc in absurd (omega arith)
-      go (isOver c f i n e) = let z : _≡_ {A = ℕ} 0 1 = cc in absurd (omega arith)
-      go (isEntryOver c f i u o e) = let z : _≡_ {A = ℕ} 0 1 = cc in absurd (omega arith)
-      go (isStored c f j u o w x l e) =
+      go : {bytes : ℕ} {at : Entry} {x : List ℕ} → Load s d m (Stored bytes at) x → getD x (r .address + d .0 + i) 0 ≡ getD (movedText d r) i 0
+      go (Load.isStored c f j u o w x l) =
           let same : c ≡ b = cc in
           let are : c .records ≡ before ++ r ∷ later = ap (λ (x : Book). x .records) same ∙ rs in
-          ap (λ (x : Outcome). getD (x .storage) (r .address + d .0 + i) 0) e
-          ∙ ap (λ x. getD (storedAll (d .0) x m) (r .address + d .0 + i) 0) are
-          ∙ stored-holds (d .0) (roomIn m) before r later m 0
-          (subst (λ x. fairAll 0 x ≡ true) are (read-fair s c f)) (omega arith)
-          (subst (λ x. firstCard (outside (d .0) (roomIn m)) x ≡ 0) are j) i h out
+          ap (λ x. getD (storedAll d x m) (r .address + d .0 + i) 0) are
+          ∙ stored-holds d (roomIn m) before r later m 0 (rw are at (read-fair s c f)) (omega arith) (rw are at j) i h out

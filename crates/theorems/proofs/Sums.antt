@@ -1,124 +1,82 @@
--- SUMS (demand 2): "so are invented byte and name counts, since each is a sum over cards or records".
--- "An accepted assembly returns the book's length and the count of names"; loading answers with "the bytes stored, overlaid ones counted each time".
-use Prim.Native.Nat.{ℕ, _+_}
-use mathlib.Core.List.{List, [], _∷_, _++_}
-use mathlib.Core.Bool.{Bool, true, false}
-use mathlib.Core.Option.{some}
-use mathlib.Core.Path.{_≡_, refl, sym, ap, _∙_}
-use native.Mathlib.Omega.{arith}
-use lib.ListN.{length, length-append}
-use lib.Dec.{eqb}
+-- SUMS (R21.3): no count is made up, each is a sum over cards or records.
+-- R15.2: the book's length and the count of names; R17.9: the bytes stored.
+use Rattle.theorems.specs.Logic.{ℕ, suc, _+_, _<_, List, [], _∷_, Bool, true, false, some, _≡_, refl, ap, _∙_, arith, length, getD, length-append, eqb}
+use Rattle.theorems.specs.Types.{Displacement, Name, Entry, Reading, Line, Course, Meaning, Record, Book, Piece, State, through, made}
 use Rattle.values.specs.Tests.{pick}
-use Rattle.values.specs.Words.{fourBytes}
-use Rattle.values.specs.declared.Displacement.{Displacement}
-use Rattle.names.specs.declared.Name.{Name}
-use Rattle.names.specs.Names.{find, defined}
-use Rattle.names.specs.Table.{zeroed}
+use Rattle.names.specs.Names.{defined}
 use Rattle.names.proofs.Names.{defined-length}
-use Rattle.book.specs.declared.Entry.{Entry}
-use Rattle.book.specs.declared.Entry.the-variants.{Absent, At}
-use Rattle.book.specs.Book.{Record, Book, bookOf}
-use Rattle.book.specs.Writing.{restBytes, recordBytes, recordsBytes, entryBytes, bookBytes}
+use Rattle.book.specs.Book.{bookOf}
+use Rattle.book.specs.Writing.{recordBytes, recordsBytes, bookBytes}
 use Rattle.cards.specs.Source.{cardsOf}
-use Rattle.lines.specs.declared.Line.{Line}
-use Rattle.lines.specs.declared.Reading.{Reading}
-use Rattle.lines.specs.declared.Reading.the-variants.{Comment, BadName, Statement}
 use Rattle.lines.specs.Lines.{readingOf}
-use Rattle.encode.specs.Pieces.{Piece, textOf}
-use Rattle.load.specs.declared.Loaded.{Loaded}
-use Rattle.load.specs.declared.Loaded.the-variants.{Stored, Broken, Outside, Over}
-use Rattle.load.specs.Load.{bytesStored, refused, loading}
-use Rattle.passes.specs.declared.Assembled.the-variants.{Made, Refused}
-use Rattle.passes.specs.declared.Course.{Course}
-use Rattle.passes.specs.Cards.{nameValue, nameLength}
-use Rattle.passes.specs.One.{State, fresh, entered as enteredBy, readingStep, stepOne, passOne}
-use Rattle.passes.specs.One.Passed.{through}
-use Rattle.passes.specs.Two.{outset, stepTwo, cardPieces, withRecord, recordsFrom, bookFrom}
-use Rattle.passes.specs.Assembly.{assembled, workSize, assembling}
-use Rattle.passes.specs.Assembly.Result.{made}
+use Rattle.encode.specs.Pieces.{textOf}
+use Rattle.load.specs.declared.Loaded.the-variants.{Stored}
+use Rattle.load.specs.Load.{bytesStored, loading}
+use Rattle.passes.specs.declared.Assembled.the-variants.{Made}
+use Rattle.passes.specs.Cards.{nameLength}
+use Rattle.passes.specs.One.{namesAfter, fresh, readingStep, stepOne, passOne, oneNo}
+use Rattle.passes.specs.Two.{outset, stepTwo, cardPieces, withRecord, cardRecords, bookFrom}
+use Rattle.passes.specs.Assembly.{assembled, assembling}
 use Rattle.passes.proofs.Turns.{pass-turn}
 use Rattle.theorems.specs.Readable.{makes}
 use Rattle.theorems.specs.Sums.{total, readingDefines, defines, textLength, recordLength}
-use Rattle.theorems.proofs.Kept.{pass-ended}
-use Rattle.theorems.proofs.Texts.{card-makes}
-use Rattle.theorems.proofs.Made.{both-passed}
-use Rattle.theorems.proofs.Loads.{firstOutside, firstOver, Load, load}
-use Rattle.theorems.proofs.Loads.Load.{isBroken, isOutside, isOver, isEntryOver, isStored}
-use Rattle.theorems.proofs.Called.{Way, way}
-use Rattle.theorems.proofs.Called.Way.{atOnce, byCards, tooLong, whole}
+use Rattle.theorems.proofs.Grow.{line-value}
+use Rattle.theorems.proofs.Readable.{accepted-source}
+use Rattle.passes.proofs.Fine.{Fine}
+use Rattle.book.proofs.Written.{book-length}
+use Rattle.theorems.specs.Grow.{behind, behindTwo, lookIn}
+use Rattle.theorems.proofs.Accepted.{let-through, pass-ended}
+use Rattle.theorems.proofs.Outcomes.{made-way, Load, load}
 
 -- THE COUNT OF NAMES
 
-entered-count : (st : State) (s : List ℕ) (l : Line) → length (enteredBy st s l) ≡ length (st .names) + pick (eqb (l .name) 0) 0 1
-unfolding enteredBy
-entered-count st s l = go (eqb (l .name) 0)
+step-count : (st : State) (s : List ℕ) → oneNo st s ≡ 0 → length (stepOne st s .names) ≡ length (st .names) + defines s
+unfolding stepOne defines namesAfter
+step-count st s h = let-through st s h (λ x. length (readingStep st s x .names) ≡ length (st .names) + readingDefines x) (omega arith) line
   where
-    x : Name
-    x = record {
-      number = l .name;
-      value = nameValue (find (st .names)) (st .counter) s l;
-      length = nameLength (l .operation) (l .shape);
-    }
+    named : (b : Bool) (x : Name) → length (pick b (st .names) (defined x (st .names))) ≡ length (st .names) + pick b 0 1
+    named true x = omega arith
+    named false x = defined-length x (st .names)
 
-    go : (b : Bool) → length (pick b (st .names) (defined x (st .names))) ≡ length (st .names) + pick b 0 1
-    go true = omega arith
-    go false = defined-length x (st .names)
-
-step-count : (st : State) (s : List ℕ) → length (stepOne st s .names) ≡ length (st .names) + defines s
-unfolding stepOne defines
-step-count st s = go (readingOf s)
-  where
-    go : (x : Reading) → length (readingStep st s x .names) ≡ length (st .names) + readingDefines x
-    go Comment = omega arith
-    go BadName = omega arith
-    go (Statement l) = entered-count st s l
+    line : (l : Line) → readingOf s ≡ Reading.Statement l → Fine st s l → length (namesAfter st s l) ≡ length (st .names) + pick (eqb (l .name) 0) 0 1
+    line l q f =
+        let (v, is) = line-value st s l q f in
+        rw is (named (eqb (l .name) 0) (record { number = l .name; value = v; length = nameLength (l .operation) (l .shape) }))
 
 pass-count : (ss : List (List ℕ)) (k : ℕ) (st a : State) → passOne k st ss ≡ through a → length (a .names) ≡ length (st .names) + total defines ss
 unfolding total
-pass-count [] k st a h = ap (λ (x : State). length (x .names)) (pass-ended k st a h) ∙ omega arith
+pass-count [] k st a h = ap (λ (x : State). length (x .names)) (pass-ended k st a h .0) ∙ omega arith
 pass-count (s ∷ ss) k st a h =
     let t = pass-turn k st a s ss h in
     let r = pass-count ss (k + 1) (stepOne st s) a (t .1) in
-    let c = step-count st s in
+    let c = step-count st s (t .0) in
     omega arith
 
 -- THE BYTES OF THE RECORDS
 
-records-bytes : (a : State) (look : ℕ → _) (ss : List (List ℕ)) (k : ℕ) (st : State) (c : Course) → passOne k st ss ≡ through a
-    → total textLength (recordsFrom look k c ss) ≡ total makes ss
-unfolding recordsFrom total textOf
-records-bytes a look [] k st c h = refl
-records-bytes a look (s ∷ ss) k st c h =
-    let t = pass-turn k st a s ss h in
-    go (cardPieces look c s) (card-makes st s (t .0) look c) (records-bytes a look ss (k + 1) (stepOne st s) (stepTwo look c s) (t .1))
+records-bytes : (look : ℕ → Meaning) (ss : List (List ℕ)) (k : ℕ) (c : Course) → ((i : ℕ) → i < length ss → length (textOf (cardPieces look (behindTwo look i c ss) (getD ss i []))) ≡ makes (getD ss i []))
+    → total textLength (cardRecords look k c ss) ≡ total makes ss
+unfolding cardRecords total textOf behind
+records-bytes look [] k c each = refl
+records-bytes look (s ∷ ss) k c each =
+    go (cardPieces look c s) (each 0 (omega arith)) (records-bytes look ss (k + 1) (stepTwo look c s) (λ i h. each (suc i) (omega arith)))
   where
     rest : List Record
-    rest = recordsFrom look (k + 1) (stepTwo look c s) ss
+    rest = cardRecords look (k + 1) (stepTwo look c s) ss
 
     go : (ps : List Piece) → length (textOf ps) ≡ makes s → total textLength rest ≡ total makes ss
         → total textLength (withRecord k (c .counter) ps rest) ≡ makes s + total makes ss
     go [] e r = omega arith
     go (p ∷ ps) e r = omega arith
 
--- "one record": its length in the book is 7 bytes more than its offsets and its text
-pub record-length : (r : Record) → recordLength r ≡ 7 + length (r .fields) + length (r .text)
-unfolding recordBytes restBytes
-record-length r = simp length-append (omega arith)
-
+-- the book's length is 8 plus the sum of its records' lengths
 records-length : (rs : List Record) → length (recordsBytes rs) ≡ total recordLength rs
 unfolding recordsBytes total
 records-length [] = refl
 records-length (r ∷ rs) = length-append (recordBytes r) (recordsBytes rs) ∙ ap (λ n. recordLength r + n) (records-length rs)
 
--- the book's length is 8 plus the sum of its records' lengths
-pub book-length : (b : Book) → length (bookBytes b) ≡ 8 + total recordLength (b .records)
-unfolding bookBytes
-book-length b = go (b .entry) (recordsBytes (b .records)) (records-length (b .records))
-  where
-    go : (e : Entry) (x : List ℕ) → length x ≡ total recordLength (b .records)
-        → length (fourBytes (4 + length x) ++ (1 ∷ (entryBytes e ++ x))) ≡ 8 + total recordLength (b .records)
-    go Absent x q = omega arith
-    go (At v) x q = omega arith
+pub book-size : (b : Book) → length (bookBytes b) ≡ 8 + total recordLength (b .records)
+book-size b = book-length b ∙ ap (λ n. 8 + n) (records-length (b .records))
 
 stored-sum : (rs : List Record) → bytesStored rs ≡ total textLength rs
 unfolding bytesStored total
@@ -131,8 +89,7 @@ module _ (ss : List (List ℕ)) (n : ℕ) (b : Book) (h : assembled ss ≡ made 
   -- the count of names is the number of cards that define one
   pub count-of-names : n ≡ total defines ss
   count-of-names =
-      let p = both-passed ss n b h in
-      let is = p .count in
+      let p = accepted-source ss n b h in
       let names = pass-count ss 1 fresh (p .end) (p .one) in
       omega arith
 
@@ -140,38 +97,20 @@ module _ (ss : List (List ℕ)) (n : ℕ) (b : Book) (h : assembled ss ≡ made 
   pub bytes-of-cards : total textLength (b .records) ≡ total makes ss
   unfolding bookFrom
   bytes-of-cards =
-      let p = both-passed ss n b h in
-      ap (λ (x : Book). total textLength (x .records)) (p .book) ∙ records-bytes (p .end) (find (p .end .names)) ss 1 fresh outset (p .one)
+      let x = accepted-source ss n b h in
+      ap (λ (x : Book). total textLength (x .records)) (x .book) ∙ records-bytes (lookIn ss) ss 1 outset (λ k i. x .sized k i .1)
 
 -- the bytes stored by an accepted load are the sum of the records' text lengths
 pub bytes-of-load : (s : List ℕ) (d : Displacement) (m : List ℕ) (bytes : ℕ) (at : Entry) → loading s d m .answer ≡ Stored bytes at
     → (b : Book) × (bookOf s ≡ some b) × (bytes ≡ total textLength (b .records))
-bytes-of-load s d m bytes at h = go (load s d m)
+bytes-of-load s d m bytes at h = go (rw h at (load s d m))
   where
-    other : (why : Loaded) → loading s d m ≡ refused why m → why ≡ Stored bytes at
-    other why e = cc
-
-    go : Load s d m → (b : Book) × (bookOf s ≡ some b) × (bytes ≡ total textLength (b .records))
-    go (isBroken f e) = let q = other Broken e in let z : _≡_ {A = ℕ} 0 1 = cc in absurd (omega arith)
-    go (isOutside b f n e) = let q = other (Outside (firstOutside s d m b)) e in let z : _≡_ {A = ℕ} 0 1 = cc in absurd (omega arith)
-    go (isOver b f i n e) = let q = other (Over (firstOver s d m b)) e in let z : _≡_ {A = ℕ} 0 1 = cc in absurd (omega arith)
-    go (isEntryOver b f i u o e) = let q = other (Over 0) e in let z : _≡_ {A = ℕ} 0 1 = cc in absurd (omega arith)
-    go (isStored b f i u o to x l e) = let q : bytes ≡ bytesStored (b .records) = cc in (b, f, q ∙ stored-sum (b .records))
+    go : {bytes : ℕ} {at : Entry} {x : List ℕ} → Load s d m (Stored bytes at) x → (b : Book) × (bookOf s ≡ some b) × (bytes ≡ total textLength (b .records))
+    go (Load.isStored b f i u o at x l) = (b, f, stored-sum (b .records))
 
 -- of the call: the answer's two numbers
 pub counts-of-call : (width : ℕ) (source work out : List ℕ) (bytes names : ℕ) → assembling width source work out .answer ≡ Made bytes names
     → (b : Book) × (assembled (cardsOf width source) ≡ made names b) × (bytes ≡ 8 + total recordLength (b .records)) × (names ≡ total defines (cardsOf width source))
-counts-of-call width source work out bytes names h = go (way width source work out)
-  where
-    other : (number card : ℕ) (w o : List ℕ) → assembling width source work out ≡ record { answer = Refused number card; work = w; out = o } → ⊥
-    other number card w o e = let z : _≡_ {A = ℕ} 0 1 = cc in omega arith
-
-    go : Way width source work out
-        → (b : Book) × (assembled (cardsOf width source) ≡ made names b) × (bytes ≡ 8 + total recordLength (b .records)) × (names ≡ total defines (cardsOf width source))
-    go (atOnce number l u e) = absurd (other number 0 work out e)
-    go (byCards w few number card f e) = absurd (other number card (zeroed workSize work) out e)
-    go (tooLong w n b f l e) = absurd (other 30 0 (zeroed workSize work) out e)
-    go (whole w n b few f l e) =
-        let size : bytes ≡ length (bookBytes b) = cc in
-        let count : names ≡ n = cc in
-        (b, f ∙ ap (λ x. made x b) (sym count), size ∙ book-length b, count ∙ count-of-names (cardsOf width source) n b f)
+counts-of-call width source work out bytes names h =
+    let x = made-way width source work out bytes names h in
+    (x .book, x .cards, x .size ∙ book-size (x .book), count-of-names (cardsOf width source) names (x .book) (x .cards))

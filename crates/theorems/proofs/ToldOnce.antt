@@ -1,40 +1,21 @@
--- TOLD ONCE (demand 1). "For every input the contract determines the entire reply and each lent byte afterwards. Where two replies would satisfy it, they are shown equal":
+-- TOLD ONCE (R21.1, R21.2). The contracts settle the whole reply and every lent byte:
 -- two replies that meet a public contract are the same. And packing is one to one: two different answers are never packed to the same number.
-use Prim.{Unit, tt}
-use Prim.Native.Nat.{ℕ, _+_, _*_, _^_, _≤_, _<_}
-use mathlib.Core.List.{List, [], _∷_}
-use mathlib.Core.Bool.{Bool, true, false}
-use mathlib.Core.Path.{_≡_, refl, sym, ap, _∙_, subst}
-use native.Mathlib.Omega.{arith}
-use lib.ListN.{length}
-use borrow.Author.Tests.{leb-true}
+use Rattle.theorems.specs.Logic.{Unit, tt, ℕ, _+_, _*_, _^_, _≤_, _<_, List, [], _∷_, Bool, true, false, _≡_, refl, sym, ap, _∙_, arith, leb-true}
+use Rattle.theorems.specs.Types.{Displacement, Entry, Loaded, Assembled, Record}
 use Rattle.values.specs.Tests.{pick}
-use Rattle.values.specs.declared.Displacement.{Displacement}
-use Rattle.book.specs.declared.Entry.{Entry}
-use Rattle.book.specs.declared.Entry.the-variants.{Absent, At}
-use Rattle.book.specs.Book.{Record}
-use Rattle.book.specs.Writing.{bookBytes, entryFits, fairAll}
-use Rattle.load.specs.declared.Loaded.{Loaded}
-use Rattle.load.specs.declared.Loaded.the-variants.{Stored, Broken, Outside, Over}
-use Rattle.load.specs.Load.{Outcome, bytesStored, firstCard, loading}
-use Rattle.passes.specs.declared.Assembled.{Assembled}
-use Rattle.passes.specs.declared.Assembled.the-variants.{Made, Refused}
+use Rattle.book.specs.Writing.{entryFits, fairAll}
+use Rattle.load.specs.Load.{bytesStored, firstCard, loading}
 use Rattle.passes.specs.One.{fresh}
-use Rattle.passes.specs.Assembly.{Outcome as AssemblyOutcome, assembling}
+use Rattle.passes.specs.Assembly.{assembling}
 use Rattle.passes.proofs.Names.{pass-few}
 use Rattle.cards.specs.Source.{cardsOf}
-use Rattle.book.proofs.Laws.{fields-few}
 use Rattle.mersclund.specs.Packed.{packedEntry, packedLoad, packedAssembled}
-use Rattle.theorems.specs.Sums.{total, recordLength}
 use Rattle.theorems.specs.ToldOnce.{Loads, Assembles, Prints}
-use Rattle.theorems.proofs.Made.{both-passed}
 use Rattle.theorems.proofs.Numbers.{cards-range}
-use Rattle.theorems.proofs.Sums.{record-length, book-length}
-use Rattle.theorems.proofs.Readable.{fair-records}
-use Rattle.theorems.proofs.Called.{Way, way}
-use Rattle.theorems.proofs.Called.Way.{atOnce, byCards, tooLong, whole}
-use Rattle.theorems.proofs.Loads.{Load, load, fair-first, read-fair}
-use Rattle.theorems.proofs.Loads.Load.{isBroken, isOutside, isOver, isEntryOver, isStored}
+use Rattle.book.proofs.Written.{book-length, records-length, fair-first, read-fair}
+use Rattle.theorems.proofs.Readable.{accepted-source, fair-records}
+use Rattle.theorems.proofs.Outcomes.{cards-few, Way, way, Load, load}
+use Rattle.theorems.proofs.Outcomes.Why.{isBroken, isOutside, isOver, isEntryOver}
 
 -- ONE REPLY
 
@@ -44,8 +25,7 @@ load-once book displacement storage r s m n x y = (x .answer ∙ sym (y .answer)
 
 pub assemble-once : (width : ℕ) (source work out : List ℕ) (r s : ℕ) (w x o p : List ℕ)
     → Assembles width source work out r w o → Assembles width source work out s x p → (r ≡ s) × (w ≡ x) × (o ≡ p)
-assemble-once width source work out r s w x o p f g =
-    (f .answer ∙ sym (g .answer), f .worked ∙ sym (g .worked), f .written ∙ sym (g .written))
+assemble-once width source work out r s w x o p f g = (f .answer ∙ sym (g .answer), f .worked ∙ sym (g .worked), f .written ∙ sym (g .written))
 
 pub print-once : (input buffer : List ℕ) (r s : ℕ) (m n : List ℕ) → Prints input buffer r m → Prints input buffer s n → (r ≡ s) × (m ≡ n)
 print-once input buffer r s m n x y = (x .answer ∙ sym (y .answer), x .written ∙ sym (y .written))
@@ -53,12 +33,12 @@ print-once input buffer r s m n x y = (x .answer ∙ sym (y .answer), x .written
 -- WHAT A LOAD ANSWERS FITS: the bytes stored in 32 bits, an entry in 16, a card below 2^56
 
 abbrev Fits : Loaded → Type 0
-Fits (Stored bytes e) = (bytes < 2 ^ 32) × (entryFits e ≡ true)
-Fits Broken = Unit {0}
-Fits (Outside card) = card ≤ 4000
-Fits (Over card) = card ≤ 4000
+Fits (Loaded.Stored bytes e) = (bytes < 2 ^ 32) × (entryFits e ≡ true)
+Fits Loaded.Broken = Unit {0}
+Fits (Loaded.Outside card) = card ≤ 4000
+Fits (Loaded.Over card) = card ≤ 4000
 
--- "card number 1 to 4,000": that of the first record that fails is no higher
+-- R16.4: the card of the first record that fails is at most 4,000
 first-low : (fails : Record → Bool) (rs : List Record) (last : ℕ) → fairAll last rs ≡ true → firstCard fails rs ≤ 4000
 unfolding firstCard
 first-low fails [] last f = omega arith
@@ -76,8 +56,6 @@ unfolding bytesStored
 stored-low [] last f h = omega arith
 stored-low (r ∷ rs) last f h =
     let (is, others) = fair-first last r rs f in
-    let rise = is .rise in
-    let short = is .short in
     let card = is .card in
     let ih = stored-low rs (r .card) others card in
     omega arith
@@ -85,25 +63,20 @@ stored-low (r ∷ rs) last f h =
 load-fits : (s : List ℕ) (d : Displacement) (m : List ℕ) → Fits (loading s d m .answer)
 load-fits s d m = go (load s d m)
   where
-    is : (a : Loaded) → loading s d m .answer ≡ a → Fits a → Fits (loading s d m .answer)
-    is a e f = subst Fits (sym e) f
-
-    go : Load s d m → Fits (loading s d m .answer)
-    go (isBroken f e) = is Broken (ap (λ (x : Outcome). x .answer) e) tt
-    go (isOutside b f n e) = is (Outside _) (ap (λ (x : Outcome). x .answer) e) (first-low _ (b .records) 0 (read-fair s b f))
-    go (isOver b f i n e) = is (Over _) (ap (λ (x : Outcome). x .answer) e) (first-low _ (b .records) 0 (read-fair s b f))
-    go (isEntryOver b f i u o e) = is (Over 0) (ap (λ (x : Outcome). x .answer) e) (omega arith)
-    go (isStored b f i u o at x l e) =
-        let low = stored-low (b .records) 0 (read-fair s b f) (omega arith) in
-        is (Stored (bytesStored (b .records)) at) (ap (λ (x : Outcome). x .answer) e) (omega arith, l)
+    go : {a : Loaded} {x : List ℕ} → Load s d m a x → Fits a
+    go (Load.isRefused (isBroken f)) = tt
+    go (Load.isRefused (isOutside b f n)) = first-low _ (b .records) 0 (read-fair s b f)
+    go (Load.isRefused (isOver b f i n)) = first-low _ (b .records) 0 (read-fair s b f)
+    go (Load.isRefused (isEntryOver b f i u o)) = omega arith
+    go (Load.isStored b f i u o at x l) = let low = stored-low (b .records) 0 (read-fair s b f) (omega arith) in (omega arith, l)
 
 -- PACKING ONE TO ONE
 
-entry-packed : (x y : ℕ) (e f : Entry) → x < 2 ^ 32 → y < 2 ^ 32 → entryFits e ≡ true → entryFits f ≡ true → x + packedEntry e ≡ y + packedEntry f → Stored x e ≡ Stored y f
-entry-packed x y Absent Absent h k i j q = let same : x ≡ y = omega arith in ap (λ n. Stored n Absent) same
-entry-packed x y Absent (At w) h k i j q = absurd (omega arith)
-entry-packed x y (At v) Absent h k i j q = absurd (omega arith)
-entry-packed x y (At v) (At w) h k i j q =
+entry-packed : (x y : ℕ) (e f : Entry) → x < 2 ^ 32 → y < 2 ^ 32 → entryFits e ≡ true → entryFits f ≡ true → x + packedEntry e ≡ y + packedEntry f → Loaded.Stored x e ≡ Loaded.Stored y f
+entry-packed x y Entry.Absent Entry.Absent h k i j q = let same : x ≡ y = omega arith in ap (λ n. Loaded.Stored n Entry.Absent) same
+entry-packed x y Entry.Absent (Entry.At w) h k i j q = absurd (omega arith)
+entry-packed x y (Entry.At v) Entry.Absent h k i j q = absurd (omega arith)
+entry-packed x y (Entry.At v) (Entry.At w) h k i j q =
     let low = leb-true (v .0) 65535 i in
     let low′ = leb-true (w .0) 65535 j in
     let same : x ≡ y = omega arith in
@@ -113,26 +86,26 @@ entry-packed x y (At v) (At w) h k i j q =
 
 -- an accepted answer is below 2^56, a refusal is not
 entry-low : (e : Entry) → entryFits e ≡ true → packedEntry e < 2 ^ 49
-entry-low Absent h = omega arith
-entry-low (At v) h = let low = leb-true (v .0) 65535 h in omega arith
+entry-low Entry.Absent h = omega arith
+entry-low (Entry.At v) h = let low = leb-true (v .0) 65535 h in omega arith
 
 load-packed : (a b : Loaded) → Fits a → Fits b → packedLoad a ≡ packedLoad b → a ≡ b
-load-packed (Stored x e) (Stored y f) (h, i) (k, j) q = entry-packed x y e f h k i j q
-load-packed Broken Broken h k q = refl
-load-packed (Outside x) (Outside y) h k q = ap Outside (omega arith)
-load-packed (Over x) (Over y) h k q = ap Over (omega arith)
-load-packed (Stored x e) Broken (h, i) k q = absurd (omega (arith, entry-low e i))
-load-packed (Stored x e) (Outside y) (h, i) k q = absurd (omega (arith, entry-low e i))
-load-packed (Stored x e) (Over y) (h, i) k q = absurd (omega (arith, entry-low e i))
-load-packed Broken (Stored y f) h (k, j) q = absurd (omega (arith, entry-low f j))
-load-packed Broken (Outside y) h k q = absurd (omega arith)
-load-packed Broken (Over y) h k q = absurd (omega arith)
-load-packed (Outside x) (Stored y f) h (k, j) q = absurd (omega (arith, entry-low f j))
-load-packed (Outside x) Broken h k q = absurd (omega arith)
-load-packed (Outside x) (Over y) h k q = absurd (omega arith)
-load-packed (Over x) (Stored y f) h (k, j) q = absurd (omega (arith, entry-low f j))
-load-packed (Over x) Broken h k q = absurd (omega arith)
-load-packed (Over x) (Outside y) h k q = absurd (omega arith)
+load-packed (Loaded.Stored x e) (Loaded.Stored y f) (h, i) (k, j) q = entry-packed x y e f h k i j q
+load-packed Loaded.Broken Loaded.Broken h k q = refl
+load-packed (Loaded.Outside x) (Loaded.Outside y) h k q = ap Loaded.Outside (omega arith)
+load-packed (Loaded.Over x) (Loaded.Over y) h k q = ap Loaded.Over (omega arith)
+load-packed (Loaded.Stored x e) Loaded.Broken (h, i) k q = absurd (omega (arith, entry-low e i))
+load-packed (Loaded.Stored x e) (Loaded.Outside y) (h, i) k q = absurd (omega (arith, entry-low e i))
+load-packed (Loaded.Stored x e) (Loaded.Over y) (h, i) k q = absurd (omega (arith, entry-low e i))
+load-packed Loaded.Broken (Loaded.Stored y f) h (k, j) q = absurd (omega (arith, entry-low f j))
+load-packed Loaded.Broken (Loaded.Outside y) h k q = absurd (omega arith)
+load-packed Loaded.Broken (Loaded.Over y) h k q = absurd (omega arith)
+load-packed (Loaded.Outside x) (Loaded.Stored y f) h (k, j) q = absurd (omega (arith, entry-low f j))
+load-packed (Loaded.Outside x) Loaded.Broken h k q = absurd (omega arith)
+load-packed (Loaded.Outside x) (Loaded.Over y) h k q = absurd (omega arith)
+load-packed (Loaded.Over x) (Loaded.Stored y f) h (k, j) q = absurd (omega (arith, entry-low f j))
+load-packed (Loaded.Over x) Loaded.Broken h k q = absurd (omega arith)
+load-packed (Loaded.Over x) (Loaded.Outside y) h k q = absurd (omega arith)
 
 -- two loads, of whatever books into whatever storages, that answer with the same number answer the same
 pub load-one-to-one : (s : List ℕ) (d : Displacement) (m : List ℕ) (t : List ℕ) (e : Displacement) (n : List ℕ)
@@ -142,48 +115,31 @@ load-one-to-one s d m t e n = load-packed (loading s d m .answer) (loading t e n
 -- WHAT AN ASSEMBLY ANSWERS FITS: the book's length in 32 bits, at most 512 names; a number of refusal that is not 0, with a card
 
 abbrev FitsIn : Assembled → Type 0
-FitsIn (Made bytes names) = (bytes ≤ 1564008) × (names ≤ 512)
-FitsIn (Refused number card) = (1 ≤ number) × (number ≤ 30) × (card ≤ 4000)
-
--- at most 391 bytes for each card number
-records-low : (rs : List Record) (last : ℕ) → fairAll last rs ≡ true → last ≤ 4000 → total recordLength rs + 391 * last ≤ 1564000
-unfolding total
-records-low [] last f h = omega arith
-records-low (r ∷ rs) last f h =
-    let (is, others) = fair-first last r rs f in
-    let rise = is .rise in
-    let short = is .short in
-    let card = is .card in
-    let size = record-length r in
-    let few = fields-few 0 (length (r .text)) (r .fields) (is .inside) (omega arith) in
-    let ih = records-low rs (r .card) others card in
-    omega arith
+FitsIn (Assembled.Made bytes names) = (bytes ≤ 1564008) × (names ≤ 512)
+FitsIn (Assembled.Refused number card) = (1 ≤ number) × (number ≤ 30) × (card ≤ 4000)
 
 assemble-fits : (width : ℕ) (source work out : List ℕ) → FitsIn (assembling width source work out .answer)
 assemble-fits width source work out = go (way width source work out)
   where
-    is : (a : Assembled) → assembling width source work out .answer ≡ a → FitsIn a → FitsIn (assembling width source work out .answer)
-    is a e f = subst FitsIn (sym e) f
-
-    go : Way width source work out → FitsIn (assembling width source work out .answer)
-    go (atOnce n l u e) = is (Refused n 0) (ap (λ (x : AssemblyOutcome). x .answer) e) (l, omega arith, omega arith)
-    go (byCards w few n k f e) =
-        let r = cards-range (cardsOf width source) n k f in
-        is (Refused n k) (ap (λ (x : AssemblyOutcome). x .answer) e) (omega arith, omega arith, omega arith)
-    go (tooLong w n b f l e) = is (Refused 30 0) (ap (λ (x : AssemblyOutcome). x .answer) e) (omega arith, omega arith, omega arith)
-    go (whole w n b few f l e) =
-        let p = both-passed (cardsOf width source) n b f in
-        let count = p .count in
+    go : {a : Assembled} {w o : List ℕ} → Way width source work out a w o → FitsIn a
+    go (Way.atOnce n l u) = (l, omega arith, omega arith)
+    go (Way.byCards w f n k e) =
+        let r = cards-range (cardsOf width source) n k e in
+        let few = cards-few width source f in
+        (omega arith, omega arith, omega arith)
+    go (Way.tooLong w) = (omega arith, omega arith, omega arith)
+    go (Way.whole w f n b e l) =
+        let p = accepted-source (cardsOf width source) n b e in
         let names = pass-few (cardsOf width source) 1 fresh (p .end) (p .one) (omega arith) in
         let size = book-length b in
-        let low = records-low (b .records) 0 (fair-records (cardsOf width source) few n b f) (omega arith) in
-        is (Made (length (bookBytes b)) n) (ap (λ (x : AssemblyOutcome). x .answer) e) (omega arith, omega arith)
+        let (low, _) = records-length (b .records) 0 (fair-records (cardsOf width source) (cards-few width source f) n b e) (omega arith) in
+        (omega arith, omega arith)
 
 assemble-packed : (a b : Assembled) → FitsIn a → FitsIn b → packedAssembled a ≡ packedAssembled b → a ≡ b
-assemble-packed (Made x m) (Made y n) (h, i) (k, j) q = let bytes : x ≡ y = omega arith in let names : m ≡ n = omega arith in cc
-assemble-packed (Refused x m) (Refused y n) (h, i, l) (k, j, o) q = let number : x ≡ y = omega arith in let card : m ≡ n = omega arith in cc
-assemble-packed (Made x m) (Refused y n) (h, i) (k, j, o) q = absurd (omega arith)
-assemble-packed (Refused x m) (Made y n) (h, i, l) (k, j) q = absurd (omega arith)
+assemble-packed (Assembled.Made x m) (Assembled.Made y n) (h, i) (k, j) q = let bytes : x ≡ y = omega arith in let names : m ≡ n = omega arith in cc
+assemble-packed (Assembled.Refused x m) (Assembled.Refused y n) (h, i, l) (k, j, o) q = let number : x ≡ y = omega arith in let card : m ≡ n = omega arith in cc
+assemble-packed (Assembled.Made x m) (Assembled.Refused y n) (h, i) (k, j, o) q = absurd (omega arith)
+assemble-packed (Assembled.Refused x m) (Assembled.Made y n) (h, i, l) (k, j) q = absurd (omega arith)
 
 -- two assemblies, of whatever sources, that answer with the same number answer the same
 pub assemble-one-to-one : (width : ℕ) (source work out : List ℕ) (width′ : ℕ) (source′ work′ out′ : List ℕ)

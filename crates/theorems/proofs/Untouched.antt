@@ -1,42 +1,45 @@
--- REFUSED MEANS UNTOUCHED (demand 1). Assembling: "Output past the book is unchanged; all of it is on a refusal. The first 8,192 bytes of the work area are zero after every answer
--- but 1, 2 and 3, which leave it untouched; bytes beyond them never change." Loading: a refusal stores nothing; "Storage counts up to 65,536 bytes".
--- Printing: "writes REFUSED 50 and nothing else".
-use Prim.Native.Nat.{ℕ, _+_, _≤_, _<_}
-use mathlib.Core.List.{List, [], _∷_, _++_, List·Memᴰ}
-use mathlib.Core.List.List·Memᴰ.{List·Memᴰ·head, List·Memᴰ·tail}
-use mathlib.Core.Bool.{Bool, true, false}
-use mathlib.Core.Option.{none, some}
-use mathlib.Core.Path.{_≡_, refl, ap, _∙_}
-use mathlib.Core.Logic.{_⊎_, inl, inr}
-use native.Mathlib.Omega.{arith}
-use lib.ListN.{length, getD, drop, replicate, length-append, length-drop, length-replicate, getD-replicate, List·getD-append}
-use lib.Dec.{leb}
-use borrow.Author.Tests.{ltb-false, le-ltb, lt-ltb, leb-true}
+-- REFUSED MEANS UNTOUCHED (R21.2). Assembling (R15.5, R15.6): a refusal leaves the output, an accepted call leaves what is past the book; the work area is cleared,
+-- but not by 1, 2 and 3. Loading (R17.3, R17.8): a refusal stores nothing, and what is behind 65,536 bytes stays.
+-- Printing (R18.1, R18.2): a refusal is one line and nothing else.
 use Rattle.values.specs.Tests.{pick}
-use Rattle.values.proofs.Laws.{both-true}
-use lib.Seq.{sets, length-sets, drop-at}
-use Rattle.values.specs.declared.Displacement.{Displacement}
+use Rattle.values.proofs.Laws.{both-true, clash}
 use Rattle.names.specs.Table.{zeroed}
-use Rattle.book.specs.declared.Entry.{Entry}
-use Rattle.book.specs.Book.{Record, Book, recordsFrom, headerOk, entryAt, withEntry, bookOf}
-use Rattle.book.specs.Writing.{bookBytes}
+use Rattle.book.specs.Book.{recordsFrom, headerOk, entryAt, withEntry, bookOf}
+use Rattle.book.specs.Writing.{bookBytes, fairAll}
 use Rattle.cards.specs.Source.{cardsOf}
-use Rattle.passes.specs.declared.Assembled.the-variants.{Made, Refused}
 use Rattle.passes.specs.Assembly.{workSize, Outcome, assembling}
-use Rattle.book.specs.Writing.{fairAll}
 use Rattle.fields.specs.Fields.{movedText}
 use Rattle.fields.proofs.Laws.{moved-length}
-use Rattle.load.specs.declared.Loaded.the-variants.{Stored}
 use Rattle.load.specs.Load.{Outcome as LoadOutcome, stored, storedAll, bytesStored, firstCard, outside, roomIn, loading}
-use Rattle.load.proofs.Laws.{none-fails}
+use Rattle.load.proofs.Laws.{none-fails, inside-is, stored-ways}
 use Rattle.print.specs.Print.{headerLine, recordLines, refused50, refused57, linesOf, printed, whereRoom}
 use Rattle.print.proofs.Laws.{header-length, no-room}
-use Rattle.theorems.proofs.Stores.{sets-other, drop-sets}
+use Rattle.book.proofs.Written.{fair-first, read-fair}
+use Rattle.theorems.specs.Logic.{ℕ, zero, suc, _+_, _≤_, _<_, List, [], _∷_, _≡_, refl, ap, _∙_, _⊎_, inl, inr, arith, length, getD, drop, set, length-set, sets, getD-set-same, getD-set-other, drop-set-lt, _++_, List·Memᴰ, List·Memᴰ·head, List·Memᴰ·tail, Bool, true, false, none, some, replicate, length-append, length-drop, length-replicate, getD-replicate, List·getD-append, leb, le-ltb, lt-ltb, leb-true, length-sets, drop-at}
+use Rattle.theorems.specs.Types.{Displacement, Entry, Assembled, Loaded, Record, Book}
 use Rattle.theorems.proofs.Numbers.{cards-number, cards-range}
-use Rattle.theorems.proofs.Loads.{Load, load, read-fair, fair-first}
-use Rattle.theorems.proofs.Loads.Load.{isBroken, isOutside, isOver, isEntryOver, isStored}
-use Rattle.theorems.proofs.Called.{Way, way}
-use Rattle.theorems.proofs.Called.Way.{atOnce, byCards, tooLong, whole}
+use Rattle.theorems.proofs.Outcomes.{Way, way, made-way, out-after, work-after, Load, load, storage-after}
+
+pub sets-other : (m : List ℕ) (at : ℕ) (vs : List ℕ) (i : ℕ) → (i < at) ⊎ (at + length vs ≤ i) → getD (sets m at vs) i 0 ≡ getD m i 0
+sets-other m at [] i h = refl
+sets-other m at (v ∷ vs) i (inl h) = sets-other (set m at v) (suc at) vs i (inl (omega arith)) ∙ getD-set-other m at i v 0 (λ e. omega arith)
+sets-other m at (v ∷ vs) i (inr h) = sets-other (set m at v) (suc at) vs i (inr (omega arith)) ∙ getD-set-other m at i v 0 (λ e. omega arith)
+
+-- what lies behind a place that the run does not reach
+pub drop-sets : (m : List ℕ) (at : ℕ) (vs : List ℕ) (n : ℕ) → at + length vs ≤ n → drop n (sets m at vs) ≡ drop n m
+drop-sets m at [] n h = refl
+drop-sets m at (v ∷ vs) n h = drop-sets (set m at v) (suc at) vs n (omega arith) ∙ drop-set-lt n m at v (omega arith)
+
+-- a run that has room is there afterwards
+pub sets-there : (m : List ℕ) (at : ℕ) (vs : List ℕ) (i : ℕ) → i < length vs → at + length vs ≤ length m → getD (sets m at vs) (at + i) 0 ≡ getD vs i 0
+sets-there m at [] i h room = absurd (omega arith)
+sets-there m at (v ∷ vs) zero h room =
+    let here : at + 0 ≡ at = omega arith in
+    ap (λ n. getD (sets (set m at v) (suc at) vs) n 0) here ∙ sets-other (set m at v) (suc at) vs at (inl (omega arith)) ∙ getD-set-same m at v 0 (omega arith)
+sets-there m at (v ∷ vs) (suc i) h room =
+    let next : at + suc i ≡ suc at + i = omega arith in
+    let size = length-set m at v in
+    ap (λ n. getD (sets (set m at v) (suc at) vs) n 0) next ∙ sets-there (set m at v) (suc at) vs i (omega arith) (omega arith)
 
 -- ZERO IN FRONT, as it was behind
 
@@ -61,192 +64,145 @@ module _ (width : ℕ) (source work out : List ℕ) where
   after = assembling width source work out
 
   -- the whole output is unchanged on a refusal
-  pub refused-output : (number card : ℕ) → after .answer ≡ Refused number card → after .out ≡ out
-  refused-output number card h = go (way width source work out)
+  pub refused-output : (number card : ℕ) → after .answer ≡ Assembled.Refused number card → after .out ≡ out
+  refused-output number card h = go (rw h at (way width source work out))
     where
-      go : Way width source work out → after .out ≡ out
-      go (atOnce n l u e) = ap (λ (x : Outcome). x .out) e
-      go (byCards w few n k f e) = ap (λ (x : Outcome). x .out) e
-      go (tooLong w n b f l e) = ap (λ (x : Outcome). x .out) e
-      go (whole w n b few f l e) = let z : _≡_ {A = ℕ} 0 1 = cc in absurd (omega arith)
+      go : {n k : ℕ} {w o : List ℕ} → Way width source work out (Assembled.Refused n k) w o → o ≡ out
+      go (Way.atOnce n l u) = refl
+      go (Way.byCards w f n k e) = refl
+      go (Way.tooLong w) = refl
 
   -- past the book it is unchanged
-  pub past-the-book : (bytes names : ℕ) → after .answer ≡ Made bytes names → drop bytes (after .out) ≡ drop bytes out
-  past-the-book bytes names h = go (way width source work out)
-    where
-      go : Way width source work out → drop bytes (after .out) ≡ drop bytes out
-      go (atOnce n l u e) = let z : _≡_ {A = ℕ} 0 1 = cc in absurd (omega arith)
-      go (byCards w few n k f e) = let z : _≡_ {A = ℕ} 0 1 = cc in absurd (omega arith)
-      go (tooLong w n b f l e) = let z : _≡_ {A = ℕ} 0 1 = cc in absurd (omega arith)
-      go (whole w n b few f l e) =
-          let size : bytes ≡ length (bookBytes b) = cc in
-          ap (λ (x : Outcome). drop bytes (x .out)) e ∙ drop-sets out 0 (bookBytes b) bytes (omega arith)
+  pub past-the-book : (bytes names : ℕ) → after .answer ≡ Assembled.Made bytes names → drop bytes (after .out) ≡ drop bytes out
+  past-the-book bytes names h =
+      let x = made-way width source work out bytes names h in
+      ap (drop bytes) (x .written) ∙ drop-sets out 0 (bookBytes (x .book)) bytes (omega arith)
 
   -- the output keeps its length
   pub output-length : length (after .out) ≡ length out
-  output-length = go (way width source work out)
-    where
-      go : Way width source work out → length (after .out) ≡ length out
-      go (atOnce n l u e) = ap (λ (x : Outcome). length (x .out)) e
-      go (byCards w few n k f e) = ap (λ (x : Outcome). length (x .out)) e
-      go (tooLong w n b f l e) = ap (λ (x : Outcome). length (x .out)) e
-      go (whole w n b few f l e) = ap (λ (x : Outcome). length (x .out)) e ∙ length-sets out 0 (bookBytes b)
+  output-length = out-after width source work out (λ o. length o ≡ length out) refl (length-sets out 0)
 
-  -- 1, 2 and 3 leave the work area untouched
-  pub early-work : (number card : ℕ) → after .answer ≡ Refused number card → number ≤ 3 → after .work ≡ work
-  early-work number card h low = go (way width source work out)
+  -- R15.6: 1, 2 and 3 leave the work area as it was
+  pub early-work : (number card : ℕ) → after .answer ≡ Assembled.Refused number card → number ≤ 3 → after .work ≡ work
+  early-work number card h low = go (rw h at (way width source work out)) low
     where
-      go : Way width source work out → after .work ≡ work
-      go (atOnce n l u e) = ap (λ (x : Outcome). x .work) e
-      go (byCards w few n k f e) =
-          let is : n ≡ number = cc in
-          let high = cards-range (cardsOf width source) n k f .0 in
-          absurd (omega arith)
-      go (tooLong w n b f l e) = let is : _≡_ {A = ℕ} 30 number = cc in absurd (omega arith)
-      go (whole w n b few f l e) = let z : _≡_ {A = ℕ} 0 1 = cc in absurd (omega arith)
+      go : {n k : ℕ} {w o : List ℕ} → Way width source work out (Assembled.Refused n k) w o → n ≤ 3 → w ≡ work
+      go (Way.atOnce n l u) low = refl
+      go (Way.byCards w f n k e) low = let high = cards-range (cardsOf width source) n k e .0 in absurd (omega arith)
+      go (Way.tooLong w) low = absurd (omega arith)
 
   -- after every other answer its first 8,192 bytes are zero
-  pub late-work : ((number card : ℕ) → after .answer ≡ Refused number card → 3 < number) → (i x : ℕ) → i < workSize → getD (after .work) i x ≡ 0
-  late-work late i x h = go (way width source work out)
+  pub late-work : ((number card : ℕ) → after .answer ≡ Assembled.Refused number card → 3 < number) → (i x : ℕ) → i < workSize → getD (after .work) i x ≡ 0
+  late-work late i x h = go late (way width source work out)
     where
-      go : Way width source work out → getD (after .work) i x ≡ 0
-      go (atOnce n l u e) = let high = late n 0 (ap (λ (x : Outcome). x .answer) e) in absurd (omega arith)
-      go (byCards w few n k f e) = ap (λ (o : Outcome). getD (o .work) i x) e ∙ zeroed-front workSize work i x h
-      go (tooLong w n b f l e) = ap (λ (o : Outcome). getD (o .work) i x) e ∙ zeroed-front workSize work i x h
-      go (whole w n b few f l e) = ap (λ (o : Outcome). getD (o .work) i x) e ∙ zeroed-front workSize work i x h
+      go : {a : Assembled} {w o : List ℕ} → ((number card : ℕ) → a ≡ Assembled.Refused number card → 3 < number) → Way width source work out a w o → getD w i x ≡ 0
+      go late (Way.atOnce n l u) = let high = late n 0 refl in absurd (omega arith)
+      go late (Way.byCards w f n k e) = zeroed-front workSize work i x h
+      go late (Way.tooLong w) = zeroed-front workSize work i x h
+      go late (Way.whole w f n b e l) = zeroed-front workSize work i x h
 
   -- beyond them it never changes
   pub work-beyond : drop workSize (after .work) ≡ drop workSize work
-  work-beyond = go (way width source work out)
-    where
-      go : Way width source work out → drop workSize (after .work) ≡ drop workSize work
-      go (atOnce n l u e) = ap (λ (x : Outcome). drop workSize (x .work)) e
-      go (byCards w few n k f e) = ap (λ (x : Outcome). drop workSize (x .work)) e ∙ zeroed-beyond workSize work
-      go (tooLong w n b f l e) = ap (λ (x : Outcome). drop workSize (x .work)) e ∙ zeroed-beyond workSize work
-      go (whole w n b few f l e) = ap (λ (x : Outcome). drop workSize (x .work)) e ∙ zeroed-beyond workSize work
+  work-beyond = work-after width source work out (λ w. drop workSize w ≡ drop workSize work) refl (λ w. zeroed-beyond workSize work)
 
   pub work-length : length (after .work) ≡ length work
-  work-length = go (way width source work out)
-    where
-      go : Way width source work out → length (after .work) ≡ length work
-      go (atOnce n l u e) = ap (λ (x : Outcome). length (x .work)) e
-      go (byCards w few n k f e) = ap (λ (x : Outcome). length (x .work)) e ∙ zeroed-length workSize work w
-      go (tooLong w n b f l e) = ap (λ (x : Outcome). length (x .work)) e ∙ zeroed-length workSize work w
-      go (whole w n b few f l e) = ap (λ (x : Outcome). length (x .work)) e ∙ zeroed-length workSize work w
+  work-length = work-after width source work out (λ w. length w ≡ length work) refl (λ w. zeroed-length workSize work w)
 
-  -- "A refusal returns its number and the card, 0 for 1, 2, 3, 30, 50 and no END": 9 to 24 with a card of the source, 9 with card 0 where there is no END
+  -- R14.2: 9 to 24 with a card of the source, 9 with card 0 where there is no END, the others with card 0
   abbrev pub Refusal : ℕ → ℕ → Type 0
   Refusal number card =
       ((1 ≤ number) × (number ≤ 3) × (card ≡ 0)) ⊎ (((9 ≤ number) × (number ≤ 24) × (1 ≤ card) × (card ≤ length (cardsOf width source)))
       ⊎ (((number ≡ 9) × (card ≡ 0)) ⊎ ((number ≡ 30) × (card ≡ 0))))
 
-  pub refusal-numbers : (number card : ℕ) → after .answer ≡ Refused number card → Refusal number card
-  refusal-numbers number card h = go (way width source work out)
+  pub refusal-numbers : (number card : ℕ) → after .answer ≡ Assembled.Refused number card → Refusal number card
+  refusal-numbers number card h = go (rw h at (way width source work out))
     where
-      cards : (n k : ℕ) → n ≡ number → k ≡ card → ((9 ≤ n) × (n ≤ 24) × (1 ≤ k) × (k ≤ length (cardsOf width source))) ⊎ ((n ≡ 9) × (k ≡ 0)) → Refusal number card
-      cards n k e f (inl (low, high, from, to)) = inr (inl (omega arith, omega arith, omega arith, omega arith))
-      cards n k e f (inr (x, y)) = inr (inr (inl (omega arith, omega arith)))
+      cards : (n k : ℕ) → ((9 ≤ n) × (n ≤ 24) × (1 ≤ k) × (k ≤ length (cardsOf width source))) ⊎ ((n ≡ 9) × (k ≡ 0)) → Refusal n k
+      cards n k (inl x) = inr (inl x)
+      cards n k (inr x) = inr (inr (inl x))
 
-      go : Way width source work out → Refusal number card
-      go (atOnce n l u e) =
-          let is : n ≡ number = cc in
-          let at : card ≡ 0 = cc in
-          inl (omega arith, omega arith, at)
-      go (byCards w few n k f e) = cards n k (cc) (cc) (cards-number (cardsOf width source) n k f)
-      go (tooLong w n b f l e) = inr (inr (inr (cc, cc)))
-      go (whole w n b few f l e) = let z : _≡_ {A = ℕ} 0 1 = cc in absurd (omega arith)
+      go : {n k : ℕ} {w o : List ℕ} → Way width source work out (Assembled.Refused n k) w o → Refusal n k
+      go (Way.atOnce n l u) = inl (l, u, refl)
+      go (Way.byCards w f n k e) = cards n k (cards-number (cardsOf width source) n k e)
+      go (Way.tooLong w) = inr (inr (inr (refl, refl)))
 
 -- LOADING
 
--- a record's text, moved or not, is as long as it was
-module _ (d : ℕ) where
+module _ (d : Displacement) where
   -- a place that lies outside the text of every record, d higher
   abbrev pub OutsideAll : ℕ → List Record → Type 0
-  OutsideAll i rs = (r : Record) → List·Memᴰ r rs → (i < r .address + d) ⊎ (r .address + d + length (r .text) ≤ i)
+  OutsideAll i rs = (r : Record) → List·Memᴰ r rs → (i < r .address + d .0) ⊎ (r .address + d .0 + length (r .text) ≤ i)
+
+  -- what holds of a store of a record's text, as long as it was, holds of the record stored
+  stored-by : (P : List ℕ → Type 0) (r : Record) (m : List ℕ) → P m
+      → (length (movedText d r) ≡ length (r .text) → P (sets m (r .address + d .0) (movedText d r))) → P (stored d r m)
+  stored-by P r m same put = go (stored-ways d r m)
+    where
+      go : (stored d r m ≡ sets m (r .address + d .0) (movedText d r)) ⊎ (stored d r m ≡ m) → P (stored d r m)
+      go (inl e) = rw e (put (moved-length d (r .text) (r .fields) (r .text)))
+      go (inr e) = rw e same
 
   pub stored-other : (rs : List Record) (m : List ℕ) (i : ℕ) → OutsideAll i rs → getD (storedAll d rs m) i 0 ≡ getD m i 0
-  unfolding storedAll stored
+  unfolding storedAll
   stored-other [] m i h = refl
   stored-other (r ∷ rs) m i h =
-      stored-other rs (sets m (r .address + d) (movedText d r)) i (λ q x. h q (List·Memᴰ·tail x))
-      ∙ sets-other m (r .address + d) (movedText d r) i (rw (moved-length d (r .text) (r .fields) (r .text)) (h r (List·Memᴰ·head refl)))
+      stored-other rs (stored d r m) i (λ q x. h q (List·Memᴰ·tail x))
+      ∙ stored-by (λ x. getD x i 0 ≡ getD m i 0) r m refl (λ e. sets-other m (r .address + d .0) (movedText d r) i (rw e (h r (List·Memᴰ·head refl))))
+
+  pub stored-size : (r : Record) (m : List ℕ) → length (stored d r m) ≡ length m
+  stored-size r m = stored-by (λ x. length x ≡ length m) r m refl (λ e. length-sets m (r .address + d .0) (movedText d r))
 
   stored-length : (rs : List Record) (m : List ℕ) → length (storedAll d rs m) ≡ length m
-  unfolding storedAll stored
+  unfolding storedAll
   stored-length [] m = refl
-  stored-length (r ∷ rs) m = stored-length rs (sets m (r .address + d) (movedText d r)) ∙ length-sets m (r .address + d) (movedText d r)
+  stored-length (r ∷ rs) m = stored-length rs (stored d r m) ∙ stored-size r m
 
   -- where every record lies inside the room, nothing behind the room changes
   stored-beyond : (room : ℕ) (rs : List Record) (m : List ℕ) (last : ℕ) → fairAll last rs ≡ true → firstCard (outside d room) rs ≡ 0 → (n : ℕ) → room ≤ n
       → drop n (storedAll d rs m) ≡ drop n m
-  unfolding storedAll stored
+  unfolding storedAll
   stored-beyond room [] m last f e n h = refl
   stored-beyond room (r ∷ rs) m last f e n h =
       let (is, others) = fair-first last r rs f in
-      let rise = is .rise in
       let (inside, rest) = none-fails (outside d room) r rs (omega arith) e in
-      let ends = ltb-false room (r .address + d + length (r .text)) inside in
-      let size = moved-length d (r .text) (r .fields) (r .text) in
-      stored-beyond room rs (sets m (r .address + d) (movedText d r)) (r .card) others rest n h
-      ∙ drop-sets m (r .address + d) (movedText d r) n (omega arith)
+      let ends = inside-is d room r inside .1 in
+      stored-beyond room rs (stored d r m) (r .card) others rest n h
+      ∙ stored-by (λ x. drop n x ≡ drop n m) r m refl (λ e. drop-sets m (r .address + d .0) (movedText d r) n (omega arith))
 
 module _ (s : List ℕ) (d : Displacement) (m : List ℕ) where
   abbrev loaded : LoadOutcome
   loaded = loading s d m
 
   -- storage is unchanged on a refusal, 50, 51 and 52 alike
-  pub refused-storage : ((bytes : ℕ) (at : Entry) → loaded .answer ≡ Stored bytes at → ⊥) → loaded .storage ≡ m
-  refused-storage no-load = go (load s d m)
+  pub refused-storage : ((bytes : ℕ) (at : Entry) → loaded .answer ≡ Loaded.Stored bytes at → ⊥) → loaded .storage ≡ m
+  refused-storage no-load = go no-load (load s d m)
     where
-      go : Load s d m → loaded .storage ≡ m
-      go (isBroken f e) = ap (λ (x : LoadOutcome). x .storage) e
-      go (isOutside b f n e) = ap (λ (x : LoadOutcome). x .storage) e
-      go (isOver b f i n e) = ap (λ (x : LoadOutcome). x .storage) e
-      go (isEntryOver b f i u o e) = ap (λ (x : LoadOutcome). x .storage) e
-      go (isStored b f i u o at x l e) = absurd (no-load (bytesStored (b .records)) at (ap (λ (x : LoadOutcome). x .answer) e))
+      go : {a : Loaded} {x : List ℕ} → ((bytes : ℕ) (at : Entry) → a ≡ Loaded.Stored bytes at → ⊥) → Load s d m a x → x ≡ m
+      go none-stored (Load.isRefused w) = refl
+      go none-stored (Load.isStored b f i u o at x l) = absurd (none-stored (bytesStored (b .records)) at refl)
 
   -- bytes behind 65,536 never change
   pub storage-beyond : drop 65536 (loaded .storage) ≡ drop 65536 m
-  storage-beyond = go (load s d m)
-    where
-      go : Load s d m → drop 65536 (loaded .storage) ≡ drop 65536 m
-      go (isBroken f e) = ap (λ (x : LoadOutcome). drop 65536 (x .storage)) e
-      go (isOutside b f n e) = ap (λ (x : LoadOutcome). drop 65536 (x .storage)) e
-      go (isOver b f i n e) = ap (λ (x : LoadOutcome). drop 65536 (x .storage)) e
-      go (isEntryOver b f i u o e) = ap (λ (x : LoadOutcome). drop 65536 (x .storage)) e
-      go (isStored b f i u o at x l e) =
-          ap (λ (x : LoadOutcome). drop 65536 (x .storage)) e ∙ stored-beyond (d .0) (roomIn m) (b .records) m 0 (read-fair s b f) i 65536 (omega arith)
+  storage-beyond =
+      storage-after s d m (λ x. drop 65536 x ≡ drop 65536 m) refl
+      (λ b f i. stored-beyond d (roomIn m) (b .records) m 0 (read-fair s b f) i 65536 (omega arith))
 
   -- bytes outside the place of every record of the book never change
-  pub storage-other : (i : ℕ) → ((b : Book) → bookOf s ≡ some b → OutsideAll (d .0) i (b .records)) → getD (loaded .storage) i 0 ≡ getD m i 0
-  storage-other i out = go (load s d m)
-    where
-      go : Load s d m → getD (loaded .storage) i 0 ≡ getD m i 0
-      go (isBroken f e) = ap (λ (x : LoadOutcome). getD (x .storage) i 0) e
-      go (isOutside b f n e) = ap (λ (x : LoadOutcome). getD (x .storage) i 0) e
-      go (isOver b f j n e) = ap (λ (x : LoadOutcome). getD (x .storage) i 0) e
-      go (isEntryOver b f j u o e) = ap (λ (x : LoadOutcome). getD (x .storage) i 0) e
-      go (isStored b f j u o at x l e) = ap (λ (x : LoadOutcome). getD (x .storage) i 0) e ∙ stored-other (d .0) (b .records) m i (out b f)
+  pub storage-other : (i : ℕ) → ((b : Book) → bookOf s ≡ some b → OutsideAll d i (b .records)) → getD (loaded .storage) i 0 ≡ getD m i 0
+  storage-other i out = storage-after s d m (λ x. getD x i 0 ≡ getD m i 0) refl (λ b f j. stored-other d (b .records) m i (out b f))
 
   -- storage keeps its length
   pub storage-length : length (loaded .storage) ≡ length m
-  storage-length = go (load s d m)
-    where
-      go : Load s d m → length (loaded .storage) ≡ length m
-      go (isBroken f e) = ap (λ (x : LoadOutcome). length (x .storage)) e
-      go (isOutside b f n e) = ap (λ (x : LoadOutcome). length (x .storage)) e
-      go (isOver b f i n e) = ap (λ (x : LoadOutcome). length (x .storage)) e
-      go (isEntryOver b f i u o e) = ap (λ (x : LoadOutcome). length (x .storage)) e
-      go (isStored b f i u o at x l e) = ap (λ (x : LoadOutcome). length (x .storage)) e ∙ stored-length (d .0) (b .records) m
+  storage-length = storage-after s d m (λ x. length x ≡ length m) refl (λ b f i. stored-length d (b .records) m)
 
 -- PRINTING
 
--- "writes REFUSED 50 and nothing else"
+-- R18.2: REFUSED 50 alone
 pub printed-50 : (s : List ℕ) → length s ≤ 65536 → bookOf s ≡ none → printed s ≡ refused50
 unfolding printed
 printed-50 s h e = rw (le-ltb 65536 (length s) h) (ap (linesOf s) e)
 
--- "REFUSED 57 for a longer input"
+-- R18.1: REFUSED 57 for a longer input
 pub printed-57 : (s : List ℕ) → 65536 < length s → printed s ≡ refused57
 unfolding printed
 printed-57 s h = rw (lt-ltb 65536 (length s) h)
@@ -266,7 +222,7 @@ told-apart s b h e =
   where
     go : (x : Bool) → headerOk s ≡ x → pick x (withEntry (entryAt s) (recordsFrom (length s) s 8 0)) none ≡ some b → 8 ≤ length s
     go true f e = leb-true 8 (length s) (both-true (leb 8 (length s)) _ f .0)
-    go false f e = let z : _≡_ {A = ℕ} 0 1 = cc in absurd (omega arith)
+    go false f e = clash (cc)
 
 -- a lent buffer behind what is printed is as it was, and so is the whole of one that is too short
 pub buffer-behind : (bytes m : List ℕ) → drop (length bytes) (whereRoom bytes m) ≡ drop (length bytes) m

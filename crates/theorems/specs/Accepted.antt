@@ -1,11 +1,7 @@
 -- What each pass says of each card, and the first card that it refuses.
-use Prim.Native.Nat.{ℕ, _+_, _<_}
-use mathlib.Core.List.{List, []}
-use mathlib.Core.Path.{_≡_}
-use lib.ListN.{length, getD}
-use Rattle.names.specs.declared.Entry.{Entry}
-use Rattle.passes.specs.declared.Course.{Course}
-use Rattle.passes.specs.One.{State, fresh, oneNo}
+use Rattle.theorems.specs.Logic.{ℕ, _+_, _<_, List, [], _≡_, length, getD}
+use Rattle.theorems.specs.Types.{Meaning, Course, State}
+use Rattle.passes.specs.One.{fresh, oneNo}
 use Rattle.passes.specs.Two.{twoNo}
 use Rattle.theorems.specs.Grow.{behindOne, behindTwo}
 
@@ -14,7 +10,7 @@ abbrev pub oneAt : State → List (List ℕ) → ℕ → ℕ
 oneAt st ss k = oneNo (behindOne k st ss) (getD ss k [])
 
 -- .. and pass two
-abbrev pub twoAt : (ℕ → Entry) → Course → List (List ℕ) → ℕ → ℕ
+abbrev pub twoAt : (ℕ → Meaning) → Course → List (List ℕ) → ℕ → ℕ
 twoAt look c ss k = twoNo look (behindTwo look k c ss) (getD ss k [])
 
 -- where pass one stands behind all cards

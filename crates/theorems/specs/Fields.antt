@@ -1,15 +1,8 @@
 -- The card and the record that belong together, and where a relocatable value starts in a text.
-use Prim.Native.Nat.{ℕ, suc, _+_, _≤_, _<_}
-use mathlib.Core.List.{List, [], _∷_, _++_, List·Memᴰ}
-use mathlib.Core.Path.{_≡_}
-use mathlib.Core.Logic.{_⊎_}
-use lib.ListN.{length, getD}
-use Rattle.values.specs.declared.Relocatable.{Relocatable}
-use Rattle.values.specs.declared.Value.{Value}
-use Rattle.book.specs.Book.{Record}
-use Rattle.encode.specs.Pieces.{Piece, textOf}
-use Rattle.encode.specs.Pieces.Piece.{value}
-use Rattle.passes.specs.Two.{outset, cardPieces, recordOf}
+use Rattle.theorems.specs.Logic.{ℕ, suc, _+_, _≤_, _<_, List, [], _∷_, _++_, List·Memᴰ, _≡_, _⊎_, length, getD}
+use Rattle.theorems.specs.Types.{Relocatable, Value, Record, Piece, value}
+use Rattle.encode.specs.Pieces.{textOf}
+use Rattle.passes.specs.Two.{outset, cardPieces, recordOfPieces}
 use Rattle.theorems.specs.Grow.{behindTwo, lookIn, counterOne}
 
 -- the text of card n + 1, as pieces: plain bytes and values of two bytes
@@ -18,7 +11,7 @@ piecesAt ss n = cardPieces (lookIn ss) (behindTwo (lookIn ss) n outset ss) (getD
 
 -- the record of card n + 1: its number, pass one's counter before it, the offsets and the text of its pieces
 abbrev pub cardRecord : List (List ℕ) → ℕ → Record
-cardRecord ss n = recordOf (suc n) (counterOne ss n) (piecesAt ss n)
+cardRecord ss n = recordOfPieces (suc n) (counterOne ss n) (piecesAt ss n)
 
 -- a relocatable value of two bytes starts at an offset: the pieces before it have so many bytes
 pub record FieldAt (ps : List Piece) (offset : ℕ) : Type 0 where

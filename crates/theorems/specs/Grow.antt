@@ -1,45 +1,38 @@
 -- How far each pass has got, and what names that only grow keep.
-use Prim.Native.Nat.{ℕ, zero, suc}
-use mathlib.Core.List.{List, [], _∷_}
-use mathlib.Core.Path.{_≡_}
-use Rattle.values.specs.declared.Value.{Value}
-use Rattle.names.specs.declared.Name.{Name}
-use Rattle.names.specs.declared.Entry.{Entry}
-use Rattle.names.specs.declared.Entry.the-variants.{Known}
+use Rattle.theorems.specs.Logic.{ℕ, zero, suc, List, [], _∷_, _≡_}
+use Rattle.theorems.specs.Types.{Value, Name, Meaning, Reading, Course, State, Passed, through, stopped}
+use Rattle.names.specs.declared.Meaning.the-variants.{Known}
 use Rattle.names.specs.Names.{find}
 use Rattle.forms.specs.Size.{sizeOf}
-use Rattle.lines.specs.declared.Reading.{Reading}
 use Rattle.lines.specs.declared.Reading.the-variants.{Comment, BadName, Statement}
 use Rattle.lines.specs.Lines.{readingOf}
-use Rattle.passes.specs.declared.Course.{Course}
-use Rattle.passes.specs.One.{State, Passed, fresh, stepOne, passOne}
-use Rattle.passes.specs.One.Passed.{through, stopped}
+use Rattle.passes.specs.One.{fresh, stepOne, passOne}
 use Rattle.passes.specs.Two.{outset, stepTwo}
 
 -- what `look` says of a defined name, `more` says too: the same value and the same length
-abbrev pub Keeps : (ℕ → Entry) → (ℕ → Entry) → Type 0
+abbrev pub Keeps : (ℕ → Meaning) → (ℕ → Meaning) → Type 0
 Keeps look more = (name : ℕ) (v : Value) (length : ℕ) → look name ≡ Known v length → more name ≡ Known v length
 
 -- BEHIND SO MANY CARDS
 
--- where pass one stands behind the first n cards, the refusals set aside
-unfoldable pub behindOne : ℕ → State → List (List ℕ) → State
-behindOne zero st ss = st
-behindOne (suc n) st [] = st
-behindOne (suc n) st (s ∷ ss) = behindOne n (stepOne st s) ss
+-- where a walk over the cards stands behind the first n of them, the refusals set aside
+unfoldable pub behind : {S : Type 0} → (S → List ℕ → S) → ℕ → S → List (List ℕ) → S
+behind step zero st ss = st
+behind step (suc n) st [] = st
+behind step (suc n) st (s ∷ ss) = behind step n (step st s) ss
 
--- where pass two stands
-unfoldable pub behindTwo : (ℕ → Entry) → ℕ → Course → List (List ℕ) → Course
-behindTwo look zero c ss = c
-behindTwo look (suc n) c [] = c
-behindTwo look (suc n) c (s ∷ ss) = behindTwo look n (stepTwo look c s) ss
+abbrev pub behindOne : ℕ → State → List (List ℕ) → State
+behindOne = behind stepOne
+
+abbrev pub behindTwo : (ℕ → Meaning) → ℕ → Course → List (List ℕ) → Course
+behindTwo look = behind (stepTwo look)
 
 -- all names of a source that pass one goes through
 abbrev pub namesBy : Passed → List Name
 namesBy (through st) = st .names
 namesBy (stopped number card) = []
 
-abbrev pub lookIn : List (List ℕ) → ℕ → Entry
+abbrev pub lookIn : List (List ℕ) → ℕ → Meaning
 lookIn ss = find (namesBy (passOne 1 fresh ss))
 
 -- the counter before card n + 1, in pass one and in pass two

@@ -1,12 +1,7 @@
--- How the records of a book are judged before a load: "51 and 52 give the card of the first such record; 52 for the entry alone gives 0".
-use Prim.Native.Nat.{ℕ, _+_}
-use mathlib.Core.List.{List, _∷_, _++_, List·Memᴰ}
-use mathlib.Core.Bool.{Bool, true, false}
-use mathlib.Core.Path.{_≡_}
-use lib.Dec.{ltb}
-use Rattle.book.specs.declared.Entry.{Entry}
+-- R17.4 to R17.8: how the records of a book are judged before a load: 51 and 52 by the first record that fails, 52 with card 0 for the entry.
+use Rattle.theorems.specs.Logic.{ℕ, _+_, List, _∷_, _++_, List·Memᴰ, Bool, true, false, _≡_, ltb}
+use Rattle.theorems.specs.Types.{Entry, Record}
 use Rattle.book.specs.declared.Entry.the-variants.{Absent, At}
-use Rattle.book.specs.Book.{Record}
 
 -- no record fails a test
 abbrev pub NoneFails : (Record → Bool) → List Record → Type 0

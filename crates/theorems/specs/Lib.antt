@@ -1,3 +1,5 @@
+pub mod Logic
+pub mod Types
 pub mod Raising
 pub mod Grow
 pub mod Readable

@@ -1,19 +1,14 @@
 -- Demand 3: what it asks of two decks, and a book moved by d.
-use Prim.Native.Nat.{ℕ, _+_}
-use mathlib.Core.List.{List, _∷_, _++_, map}
-use mathlib.Core.Path.{_≡_}
-use Rattle.encode.specs.Pieces.Piece.{value}
-use Rattle.book.specs.declared.Entry.{Entry}
+use Rattle.theorems.specs.Logic.{ℕ, _+_, List, _∷_, _++_, map, _≡_}
+use Rattle.theorems.specs.Types.{Entry, Line, Displacement, value, Record, Book}
 use Rattle.book.specs.declared.Entry.the-variants.{Absent, At}
-use Rattle.book.specs.Book.{Record, Book}
 use Rattle.fields.specs.Fields.{movedText}
 use Rattle.operations.specs.declared.Operation.the-variants.{Start}
-use Rattle.lines.specs.declared.Line.{Line}
 use Rattle.lines.specs.declared.Reading.the-variants.{Statement}
 use Rattle.lines.specs.Lines.{readingOf}
-use Rattle.passes.specs.Cards.{startValue}
+use Rattle.forms.specs.Shape.{startOr}
 
--- THE PREMISE of demand 3
+-- R21.4: THE PREMISE of demand 3
 
 -- a card that reads as START: its name, a number (0 where it has none), and its value (0 where its operand is absent)
 pub record Starting (s : List ℕ) (called at : ℕ) : Type 0 where
@@ -21,7 +16,7 @@ pub record Starting (s : List ℕ) (called at : ℕ) : Type 0 where
   pub reads : readingOf s ≡ Statement line
   pub operation : line .operation ≡ Start
   pub name : line .name ≡ called
-  pub value : startValue (line .shape) ≡ at
+  pub value : startOr (line .shape) 0 ≡ at
 
 -- two decks of cards, each card its statement columns, that agree on every card but START's; there the names agree, and the values are s and s + d
 pub record SameButStart (d : ℕ) (ss ts : List (List ℕ)) : Type 0 where
@@ -38,13 +33,13 @@ pub record SameButStart (d : ℕ) (ss ts : List (List ℕ)) : Type 0 where
 
 -- A BOOK MOVED BY d, as the loader moves it: entry and addresses d higher, d added to the listed fields of every text
 
-module _ (d : ℕ) where
+module _ (d : Displacement) where
   abbrev pub movedRecord : Record → Record
-  movedRecord r = record { card = r .card; address = r .address + d; fields = r .fields; text = movedText d r }
+  movedRecord r = record { card = r .card; address = r .address + d .0; fields = r .fields; text = movedText d r }
 
   abbrev pub movedEntry : Entry → Entry
   movedEntry Absent = Absent
-  movedEntry (At e) = At (record { 0 = e .0 + d })
+  movedEntry (At e) = At (record { 0 = e .0 + d .0 })
 
   abbrev pub movedBook : Book → Book
   movedBook b = record { entry = movedEntry (b .entry); records = map movedRecord (b .records) }

@@ -1,24 +1,15 @@
 -- Operands, bases, pieces and the states of both passes raised by d: everything relocatable is d higher, all else stays.
-use Prim.Native.Nat.{ℕ, _+_}
-use mathlib.Core.List.{map}
+use Rattle.theorems.specs.Logic.{ℕ, _+_, map}
+use Rattle.theorems.specs.Types.{MaybeValue, Evaluated, EvaluatedItem, EvaluatedAddress, Operands, Base, Bases, Operand, Placed, Course, Piece, plain, value, State}
 use Rattle.names.specs.Raised.{raisedValue, raisedName}
-use Rattle.expressions.specs.declared.Evaluated.{Evaluated}
 use Rattle.expressions.specs.declared.Evaluated.the-variants.{Good, Malformed, Undefined, WrongKind, OutOfRange}
-use Rattle.statements.specs.declared.operands.Valued.{Valued}
-use Rattle.statements.specs.declared.operands.Place.{Place}
-use Rattle.statements.specs.declared.operands.Operands.{Operands}
-use Rattle.statements.specs.declared.places.Base.{Base}
-use Rattle.statements.specs.declared.places.Bases.{Bases}
-use Rattle.statements.specs.declared.places.Operand.{Operand}
-use Rattle.statements.specs.declared.places.Placed.{Placed}
-use Rattle.encode.specs.Pieces.{Piece}
-use Rattle.encode.specs.Pieces.Piece.{plain, value}
-use Rattle.book.specs.declared.Entry.the-variants.{Absent, At}
-use Rattle.passes.specs.declared.Course.{Course}
-use Rattle.passes.specs.One.{State}
 
 module _ (d : ℕ) where
   -- OPERANDS
+
+  abbrev pub raisedMaybe : MaybeValue → MaybeValue
+  raisedMaybe (MaybeValue.Is v) = MaybeValue.Is (raisedValue d v)
+  raisedMaybe MaybeValue.Nothing = MaybeValue.Nothing
 
   abbrev pub raisedEvaluated : Evaluated → Evaluated
   raisedEvaluated (Good v) = Good (raisedValue d v)
@@ -27,25 +18,25 @@ module _ (d : ℕ) where
   raisedEvaluated WrongKind = WrongKind
   raisedEvaluated (OutOfRange k) = OutOfRange k
 
-  abbrev pub raisedValued : Valued → Valued
-  raisedValued Valued.Absent = Valued.Absent
-  raisedValued (Valued.Of e) = Valued.Of (raisedEvaluated e)
+  abbrev pub raisedItem : EvaluatedItem → EvaluatedItem
+  raisedItem EvaluatedItem.Absent = EvaluatedItem.Absent
+  raisedItem (EvaluatedItem.Of e) = EvaluatedItem.Of (raisedEvaluated e)
 
-  abbrev pub raisedPlace : Place → Place
-  raisedPlace p = record {
-    address = raisedEvaluated (p .address);
-    length = raisedValued (p .length);
-    register = raisedValued (p .register);
-    implied = p .implied;
+  abbrev pub raisedAddress : EvaluatedAddress → EvaluatedAddress
+  raisedAddress a = record {
+    address = raisedEvaluated (a .address);
+    length = raisedItem (a .length);
+    register = raisedItem (a .register);
+    implied = a .implied;
   }
 
   abbrev pub raisedOperands : Operands → Operands
-  raisedOperands (Operands.Two a b) = Operands.Two (raisedPlace a) (raisedPlace b)
-  raisedOperands (Operands.One a q) = Operands.One (raisedPlace a) (raisedEvaluated q)
-  raisedOperands (Operands.Only a) = Operands.Only (raisedPlace a)
+  raisedOperands (Operands.TwoAddresses a b) = Operands.TwoAddresses (raisedAddress a) (raisedAddress b)
+  raisedOperands (Operands.AddressAndCode a q) = Operands.AddressAndCode (raisedAddress a) (raisedEvaluated q)
+  raisedOperands (Operands.LoneAddress a) = Operands.LoneAddress (raisedAddress a)
   raisedOperands (Operands.Pair e q) = Operands.Pair (raisedEvaluated e) (raisedEvaluated q)
   raisedOperands (Operands.Lone e) = Operands.Lone (raisedEvaluated e)
-  raisedOperands (Operands.Addresses n m e) = Operands.Addresses n m (raisedEvaluated e)
+  raisedOperands (Operands.AddressConstants n m e) = Operands.AddressConstants n m (raisedEvaluated e)
   raisedOperands Operands.None = Operands.None
 
   -- the bases of USING
@@ -65,6 +56,7 @@ module _ (d : ℕ) where
   raisedPlaced (Placed.At x) = Placed.At (raisedOperand x)
   raisedPlaced Placed.NoBase = Placed.NoBase
   raisedPlaced Placed.OutOfReach = Placed.OutOfReach
+  raisedPlaced Placed.Nothing = Placed.Nothing
 
   -- TEXT
 

@@ -1,12 +1,8 @@
--- Sums over cards and over records: "invented byte and name counts .. each is a sum over cards or records".
-use Prim.Native.Nat.{ℕ, _+_}
-use mathlib.Core.List.{List, [], _∷_}
-use lib.ListN.{length}
-use lib.Dec.{eqb}
+-- R21.3: sums over cards and over records, which the counts answered must be.
+use Rattle.theorems.specs.Logic.{ℕ, _+_, List, [], _∷_, length, eqb}
+use Rattle.theorems.specs.Types.{Reading, Record}
 use Rattle.values.specs.Tests.{pick}
-use Rattle.book.specs.Book.{Record}
 use Rattle.book.specs.Writing.{recordBytes}
-use Rattle.lines.specs.declared.Reading.{Reading}
 use Rattle.lines.specs.declared.Reading.the-variants.{Comment, BadName, Statement}
 use Rattle.lines.specs.Lines.{readingOf}
 

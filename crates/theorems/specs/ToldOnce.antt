@@ -1,8 +1,5 @@
 -- What it is to meet the contract of a public call: the whole reply, and every lent byte afterwards.
-use Prim.Native.Nat.{ℕ}
-use mathlib.Core.List.{List}
-use mathlib.Core.Path.{_≡_}
-use lib.ListN.{length}
+use Rattle.theorems.specs.Logic.{ℕ, List, _≡_, length}
 use Rattle.load.specs.Load.{loading}
 use Rattle.passes.specs.Assembly.{assembling}
 use Rattle.print.specs.Print.{printed, whereRoom}

@@ -1,16 +1,16 @@
 -- Laws on tests, words, parts of a list and stores in a row.
-use Prim.Native.Nat.{ℕ, zero, suc, _+_, _-_, _*_, _/_, _%_, _≤_, _<_}
-use mathlib.Core.List.{List, [], _∷_, _++_, append-assoc, append-nil}
+use Prim.Native.Nat.{ℕ, suc, _+_, _-_, _*_, _≤_, _<_}
+use mathlib.Core.List.{List, [], _∷_, _++_, append-nil}
 use mathlib.Core.Path.{_≡_, refl, sym, ap, _∙_}
 use mathlib.Core.Bool.{Bool, true, false}
-use native.Mathlib.Nat.{add-zero, sub-zero, zero-add, suc-add, add-suc, lt-of-not-le}
+use native.Mathlib.Nat.{add-zero, sub-zero, zero-add, suc-add, lt-of-not-le}
 use native.Mathlib.Numerals.{add-one}
 use native.Mathlib.Decide.{decLe}
 use native.Mathlib.Omega.{arith}
 use lib.ListN.{length, getD, take, drop, set, length-append, length-take, length-drop, length-set, drop-of-length-le}
-use lib.Seq.{drop-cons, sets, length-sets, sets-eq, getD-take, getD-drop, getD-append-add, drop-append-add, set-append-left, length-take-le}
-use Rattle.values.specs.Tests.{pick, both, either}
-use Rattle.values.specs.Words.{word, long, base256, base256On, twoBytes, fourBytes, part}
+use lib.Seq.{drop-cons, sets, sets-eq, getD-take, getD-drop, getD-append-add, drop-append-add, set-append-left, length-take-le}
+use Rattle.values.specs.Tests.{both}
+use Rattle.values.specs.Words.{word, long, base256, base256On, fourBytes, part}
 
 -- two cases of an enum are never equal: where `cc` finds that they are, anything follows by `clash (cc)`
 pub clash {ℓ} : {X : Type ℓ} → _≡_ {A = ℕ} 0 1 → X

@@ -1,15 +1,13 @@
 -- What the sum of a relocatable value and a displacement says.
-use Prim.Native.Nat.{ℕ, _+_, _≤_, _<_}
+use Prim.Native.Nat.{_+_, _≤_, _<_}
 use mathlib.Core.Path.{_≡_, refl, ap}
 use mathlib.Core.Bool.{Bool, true, false}
-use native.Mathlib.Omega.{arith}
 use lib.Dec.{leb}
 use borrow.Author.Tests.{leb-true, leb-false}
 use Rattle.values.specs.Tests.{pick}
 use Rattle.values.specs.Values.{movedBy}
 use Rattle.values.specs.declared.Displacement.{Displacement}
 use Rattle.values.specs.declared.Relocatable.{Relocatable}
-use Rattle.values.specs.declared.Moved.{Moved}
 use Rattle.values.specs.declared.Moved.the-variants.{To, Over}
 use Rattle.values.proofs.Laws.{clash}
 

@@ -1,4 +1,4 @@
--- Values of both kinds, values that may be missing, and the sum with a displacement.
+-- R5.1: values of both kinds, values that may be missing, and the sum with a displacement.
 use Prim.Native.Nat.{ℕ, _+_}
 use lib.Dec.{leb}
 use Rattle.values.specs.Tests.{pick}
@@ -18,16 +18,16 @@ amountOf (Value.Relocatable a) = a .0
 
 -- what to do with a value, and what holds where there is none
 abbrev pub withValue : {X : Type 0} → MaybeValue → (Value → X) → X → X
-withValue (MaybeValue.Is v) f none = f v
-withValue MaybeValue.Nothing f none = none
+withValue (MaybeValue.Is v) f other = f v
+withValue MaybeValue.Nothing f other = other
 
 abbrev pub withAbsolute : {X : Type 0} → MaybeAbsolute → (ℕ → X) → X → X
-withAbsolute (MaybeAbsolute.Is a) f none = f (a .0)
-withAbsolute MaybeAbsolute.Nothing f none = none
+withAbsolute (MaybeAbsolute.Is a) f other = f (a .0)
+withAbsolute MaybeAbsolute.Nothing f other = other
 
 abbrev pub withRelocatable : {X : Type 0} → MaybeRelocatable → (ℕ → X) → X → X
-withRelocatable (MaybeRelocatable.Is a) f none = f (a .0)
-withRelocatable MaybeRelocatable.Nothing f none = none
+withRelocatable (MaybeRelocatable.Is a) f other = f (a .0)
+withRelocatable MaybeRelocatable.Nothing f other = other
 
 abbrev pub absoluteOf : Value → MaybeAbsolute
 absoluteOf (Value.Absolute a) = MaybeAbsolute.Is a
@@ -45,6 +45,6 @@ onlyAbsolute v = withValue v absoluteOf MaybeAbsolute.Nothing
 abbrev pub onlyRelocatable : MaybeValue → MaybeRelocatable
 onlyRelocatable v = withValue v relocatableOf MaybeRelocatable.Nothing
 
--- a relocatable value plus a displacement, where that is at most 65535; only a relocatable value is moved
+-- R5.1: a relocatable value plus a displacement, where that is at most 65535; only a relocatable value is moved
 unfoldable pub movedBy : Displacement → Relocatable → Moved
 movedBy d v = pick (leb (v .0 + d .0) 65535) (To (record { 0 = v .0 + d .0 })) Over

@@ -7,17 +7,8 @@ use borrow.Author.Needs.{needs}
 use Rattle.addresses.proofs.behind_address.Statement.{statement}
 use Rattle.addresses.proofs.behind_address.Tie as tie
 
-byte-at-requires : tie.Need-byte-at-requires
-byte-at-requires c κs = search needs
-
 add-items-at : tie.Need-add-items-at
 add-items-at c = omega (arith, stands-inside 40 (c .before .before .before .args .s .now) (c .before .before .before .args .q) (omega arith) (is-byte (c .before .byte-at .ensures) (c .if1 .taken)))
-
-items-at-requires : tie.Need-items-at-requires
-items-at-requires c κs = search needs
-
-plain-requires : tie.Need-plain-requires
-plain-requires c κs = search needs
 
 returns : tie.Need-returns
 unfolding behindAddress
@@ -30,4 +21,10 @@ returns-2 c = rw (no-byte (c .before .before .byte-at .ensures) (c .before .if1 
 pub behind-address-spec : {M : Type 1} → statement M
 behind-address-spec =
     tie.close
-    (tie.spec byte-at-requires add-items-at items-at-requires plain-requires returns returns-2)
+    (tie.spec
+    (λ c κs. search needs)
+    add-items-at
+    (λ c κs. search needs)
+    (λ c κs. search needs)
+    returns
+    returns-2)

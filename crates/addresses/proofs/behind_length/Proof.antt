@@ -7,21 +7,12 @@ use borrow.Author.Needs.{needs}
 use Rattle.addresses.proofs.behind_length.Statement.{statement}
 use Rattle.addresses.proofs.behind_length.Tie as tie
 
-byte-at-requires : tie.Need-byte-at-requires
-byte-at-requires c κs = search needs
-
 add-register-at : tie.Need-add-register-at
 add-register-at c = omega (arith, stands-inside 44 (c .before .before .before .args .s .now) (c .before .before .before .args .q) (omega arith) (is-byte (c .before .byte-at .ensures) (c .if1 .taken)))
-
-register-at-requires : tie.Need-register-at-requires
-register-at-requires c κs = search needs
 
 returns : tie.Need-returns
 unfolding behindLength
 returns c = rw (is-byte (c .before .before .byte-at .ensures) (c .before .if1 .taken)) (c .register-at .ensures)
-
-closed-requires : tie.Need-closed-requires
-closed-requires c κs = search needs
 
 returns-2 : tie.Need-returns-2
 unfolding behindLength
@@ -31,9 +22,9 @@ pub behind-length-spec : {M : Type 1} → statement M
 behind-length-spec =
     tie.close
     (tie.spec
-    byte-at-requires
+    (λ c κs. search needs)
     add-register-at
-    register-at-requires
+    (λ c κs. search needs)
     returns
-    closed-requires
+    (λ c κs. search needs)
     returns-2)

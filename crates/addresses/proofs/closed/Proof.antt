@@ -7,9 +7,6 @@ use borrow.Author.Needs.{needs}
 use Rattle.addresses.proofs.closed.Statement.{statement}
 use Rattle.addresses.proofs.closed.Tie as tie
 
-byte-at-requires : tie.Need-byte-at-requires
-byte-at-requires c κs = search needs
-
 add-t7 : tie.Need-add-t7
 add-t7 c = omega (arith, stands-inside 41 (c .before .before .before .args .s .now) (c .before .before .before .args .q) (omega arith) (is-byte (c .before .byte-at .ensures) (c .if1 .taken)))
 
@@ -22,4 +19,4 @@ unfolding closed
 returns-2 c = rw (no-byte (c .before .byte-at .ensures) (c .if1 .left))
 
 pub closed-spec : {M : Type 1} → statement M
-closed-spec = tie.close (tie.spec byte-at-requires add-t7 returns returns-2)
+closed-spec = tie.close (tie.spec (λ c κs. search needs) add-t7 returns returns-2)

@@ -7,14 +7,8 @@ use borrow.Author.Needs.{needs}
 use Rattle.addresses.proofs.or_register.Statement.{statement}
 use Rattle.addresses.proofs.or_register.Tie as tie
 
-byte-at-requires : tie.Need-byte-at-requires
-byte-at-requires c κs = search needs
-
 add-register-at : tie.Need-add-register-at
 add-register-at c = omega (arith, stands-inside 44 (c .before .before .before .args .s .now) (c .before .before .before .args .p) (omega arith) (is-byte (c .before .byte-at .ensures) (c .if1 .taken)))
-
-register-at-requires : tie.Need-register-at-requires
-register-at-requires c κs = search needs
 
 returns : tie.Need-returns
 unfolding orRegister
@@ -26,4 +20,5 @@ returns-2 c = rw (no-byte (c .before .byte-at .ensures) (c .if1 .left))
 
 pub or-register-spec : {M : Type 1} → statement M
 or-register-spec =
-    tie.close (tie.spec byte-at-requires add-register-at register-at-requires returns returns-2)
+    tie.close
+    (tie.spec (λ c κs. search needs) add-register-at (λ c κs. search needs) returns returns-2)

@@ -5,18 +5,6 @@ use borrow.Author.Needs.{needs}
 use Rattle.addresses.proofs.register_at.Statement.{statement}
 use Rattle.addresses.proofs.register_at.Tie as tie
 
-expression-form-requires : tie.Need-expression-form-requires
-expression-form-requires c κs = search needs
-
-enum-known-place : tie.Need-enum-known-place
-enum-known-place c = search needs
-
-enum-known-q : tie.Need-enum-known-q
-enum-known-q c = search needs
-
-closed-requires : tie.Need-closed-requires
-closed-requires c κs = search needs
-
 returns : tie.Need-returns
 unfolding registerAt
 returns c = rw (sym (c .before .before .before .expression-form .ensures), c .before .place .given .1)
@@ -29,9 +17,9 @@ pub register-at-spec : {M : Type 1} → statement M
 register-at-spec =
     tie.close
     (tie.spec
-    expression-form-requires
-    enum-known-place
-    enum-known-q
-    closed-requires
+    (λ c κs. search needs)
+    (λ c. search needs)
+    (λ c. search needs)
+    (λ c κs. search needs)
     returns
     returns-2)

@@ -5,26 +5,8 @@ use borrow.Author.Needs.{needs}
 use Rattle.assemble.proofs.assemble_cards.Statement.{statement}
 use Rattle.assemble.proofs.assemble_cards.Tie as tie
 
-source-no-requires : tie.Need-source-no-requires
-source-no-requires c κs = search needs
-
-returns : tie.Need-returns
-returns c = refused-source _ _ _ _ _ (c .before .source-no .ensures) (c .if1 .taken)
-
 returns-2 : tie.Need-returns-2
 returns-2 c = refused-work _ _ _ _ (sym (c .before .before .source-no .ensures) ∙ c .before .if1 .left) (c .if2 .taken)
-
-translate-requires : tie.Need-translate-requires
-translate-requires c κs = search needs
-
-clear-requires : tie.Need-clear-requires
-clear-requires c κs = search needs
-
-same-length : tie.Need-same-length
-same-length c = search needs
-
-same-length-2 : tie.Need-same-length-2
-same-length-2 c = search needs
 
 returns-3 : tie.Need-returns-3
 returns-3 c =
@@ -35,11 +17,11 @@ pub assemble-cards-spec : {M : Type 1} → statement M
 assemble-cards-spec =
     tie.close
     (tie.spec
-    source-no-requires
-    returns
+    (λ c κs. search needs)
+    (λ c. refused-source _ _ _ _ _ (c .before .source-no .ensures) (c .if1 .taken))
     returns-2
-    translate-requires
-    clear-requires
-    same-length
-    same-length-2
+    (λ c κs. search needs)
+    (λ c κs. search needs)
+    (λ c. search needs)
+    (λ c. search needs)
     returns-3)

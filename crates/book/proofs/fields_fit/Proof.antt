@@ -16,15 +16,6 @@ Inv-loop offsets size least₀ i₀ least i = (i ≤ length offsets) × (fieldsF
 abbrev μ-loop : tie.MeasureT-loop
 μ-loop offsets size least₀ i₀ least i = length offsets - i
 
-loop-holds : tie.Need-loop-holds Inv-loop μ-loop
-loop-holds c = (omega arith, refl)
-
-shared-slice-read-wide : tie.Need-shared-slice-read-wide Inv-loop μ-loop
-shared-slice-read-wide c = omega arith
-
-wide-requires : tie.Need-wide-requires Inv-loop μ-loop
-wide-requires c κs = tt
-
 -- the offsets left, the one at hand first
 left : (c : tie.After-wide Inv-loop μ-loop)
     → fieldsFit 0 (c .before .before .before .before .before .args .size) (c .before .before .before .before .before .args .offsets .now) ≡ fieldsFit (c .before .before .before .loop .least) (c .before .before .before .before .before .args .size) (c .wide .result ∷ drop (c .before .before .before .loop .i + 1) (c .before .before .before .before .before .args .offsets .now))
@@ -35,20 +26,8 @@ left c =
 returns : tie.Need-returns Inv-loop μ-loop
 returns c = let a = c .before .before .before .before .before .before .args in let l = c .before .before .before .before .loop in sym (left (c .before) ∙ fields-low (l .least) (a .size) (c .before .wide .result) _ (omega arith))
 
-add-if2 : tie.Need-add-if2 Inv-loop μ-loop
-add-if2 c = omega arith
-
 returns-2 : tie.Need-returns-2 Inv-loop μ-loop
 returns-2 c = let a = c .before .before .before .before .before .before .before .args in let l = c .before .before .before .before .before .loop in sym (left (c .before .before) ∙ fields-out (l .least) (a .size) (c .before .before .wide .result) _ (omega arith))
-
-add-least : tie.Need-add-least Inv-loop μ-loop
-add-least c = omega arith
-
-add-i : tie.Need-add-i Inv-loop μ-loop
-add-i c = omega arith
-
-loop-less : tie.Need-loop-less Inv-loop μ-loop
-loop-less c = omega arith
 
 loop-again : tie.Need-loop-again Inv-loop μ-loop
 loop-again c = let a = c .before .before .before .before .before .before .before .args in let l = c .before .before .before .before .before .loop in
@@ -64,14 +43,14 @@ fields-fit-spec =
     (tie.spec
     Inv-loop
     μ-loop
-    loop-holds
-    shared-slice-read-wide
-    wide-requires
+    (λ c. (omega arith, refl))
+    (λ c. omega arith)
+    (λ c κs. tt)
     returns
-    add-if2
+    (λ c. omega arith)
     returns-2
-    add-least
-    add-i
-    loop-less
+    (λ c. omega arith)
+    (λ c. omega arith)
+    (λ c. omega arith)
     loop-again
     returns-3)

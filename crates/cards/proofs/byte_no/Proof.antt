@@ -5,9 +5,6 @@ use borrow.Author.Needs.{needs}
 use Rattle.cards.proofs.byte_no.Statement.{statement}
 use Rattle.cards.proofs.byte_no.Tie as tie
 
-all-accepted-requires : tie.Need-all-accepted-requires
-all-accepted-requires c κs = search needs
-
 returns : tie.Need-returns
 unfolding byteNo
 returns c = rw (sym (c .before .all-accepted .ensures) ∙ c .if1 .taken)
@@ -17,4 +14,4 @@ unfolding byteNo
 returns-2 c = rw (sym (c .before .all-accepted .ensures) ∙ c .if1 .left)
 
 pub byte-no-spec : {M : Type 1} → statement M
-byte-no-spec = tie.close (tie.spec all-accepted-requires returns returns-2)
+byte-no-spec = tie.close (tie.spec (λ c κs. search needs) returns returns-2)

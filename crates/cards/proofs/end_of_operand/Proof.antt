@@ -16,23 +16,8 @@ Inv-loop s at inside₀ i₀ inside i = (operandEnd (length s - i) inside s i �
 abbrev μ-loop : tie.MeasureT-loop
 μ-loop s at inside₀ i₀ inside i = length s - i
 
-loop-holds : tie.Need-loop-holds Inv-loop μ-loop
-loop-holds c = (refl, omega arith, omega arith)
-
-ends-here-requires : tie.Need-ends-here-requires Inv-loop μ-loop
-ends-here-requires c κs = search needs
-
 returns : tie.Need-returns Inv-loop μ-loop
 returns c = (sym (operand-stop (c .before .before .before .before .before .args .s .now) (c .before .before .before .loop .i) (c .before .before .before .loop .inside) (c .before .before .loop-test .taken) (sym (c .before .ends-here .ensures) ∙ c .if1 .taken)) ∙ c .before .before .before .loop .inv .0, omega arith, omega arith)
-
-turned-at-requires : tie.Need-turned-at-requires Inv-loop μ-loop
-turned-at-requires c κs = search needs
-
-add-i : tie.Need-add-i Inv-loop μ-loop
-add-i c = omega arith
-
-loop-less : tie.Need-loop-less Inv-loop μ-loop
-loop-less c = omega arith
 
 loop-again : tie.Need-loop-again Inv-loop μ-loop
 loop-again c = (ap (λ x. operandEnd (length (c .before .before .before .before .before .before .args .s .now) - (c .before .before .before .before .loop .i + 1)) x (c .before .before .before .before .before .before .args .s .now) (c .before .before .before .before .loop .i + 1)) (c .turned-at .ensures) ∙ sym (operand-more (c .before .before .before .before .before .before .args .s .now) (c .before .before .before .before .loop .i) (c .before .before .before .before .loop .inside) (c .before .before .before .loop-test .taken) (sym (c .before .before .ends-here .ensures) ∙ c .before .if1 .left)) ∙ c .before .before .before .before .loop .inv .0, omega arith, omega arith)
@@ -46,11 +31,11 @@ end-of-operand-spec =
     (tie.spec
     Inv-loop
     μ-loop
-    loop-holds
-    ends-here-requires
+    (λ c. (refl, omega arith, omega arith))
+    (λ c κs. search needs)
     returns
-    turned-at-requires
-    add-i
-    loop-less
+    (λ c κs. search needs)
+    (λ c. omega arith)
+    (λ c. omega arith)
     loop-again
     returns-2)

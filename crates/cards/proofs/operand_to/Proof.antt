@@ -7,12 +7,6 @@ use borrow.Author.Needs.{needs}
 use Rattle.cards.proofs.operand_to.Statement.{statement}
 use Rattle.cards.proofs.operand_to.Tie as tie
 
-sub-if1 : tie.Need-sub-if1
-sub-if1 c = search needs
-
-byte-at-requires : tie.Need-byte-at-requires
-byte-at-requires c κs = search needs
-
 returns : tie.Need-returns
 returns c = rw (eq-eqb (c .before .before .before .before .args .to) (c .before .before .before .before .args .from + 1) (omega arith), is-byte (c .before .byte-at .ensures) (c .if2 .taken))
 
@@ -23,4 +17,5 @@ returns-3 : tie.Need-returns-3
 returns-3 c = rw (ne-eqb (c .before .before .args .to) (c .before .before .args .from + 1) (λ e. c .if1 .left (omega arith)))
 
 pub operand-to-spec : {M : Type 1} → statement M
-operand-to-spec = tie.close (tie.spec sub-if1 byte-at-requires returns returns-2 returns-3)
+operand-to-spec =
+    tie.close (tie.spec (λ c. search needs) (λ c κs. search needs) returns returns-2 returns-3)

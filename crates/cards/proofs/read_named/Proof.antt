@@ -6,20 +6,8 @@ use borrow.Author.Needs.{needs}
 use Rattle.cards.proofs.read_named.Statement.{statement}
 use Rattle.cards.proofs.read_named.Tie as tie
 
-read-name-requires : tie.Need-read-name-requires
-read-name-requires c κs = search needs
-
-enum-known-number : tie.Need-enum-known-number
-enum-known-number c = search needs
-
-name-ends-requires : tie.Need-name-ends-requires
-name-ends-requires c κs = search needs
-
 read-fields-requires : tie.Need-read-fields-requires
 read-fields-requires c κs = subst (NameWithin (c .before .before .before .before .before .before .before .args .s .now) 0) (sym (c .before .before .before .before .before .read-name .ensures) ∙ c .before .before .before .number .given .1) (name-within (c .before .before .before .before .before .before .before .args .s .now) 0) .1
-
-enum-told : tie.Need-enum-told
-enum-told c = search needs
 
 returns : tie.Need-returns
 returns c = rw (sym (c .before .before .before .before .before .before .read-name .ensures), c .before .before .before .before .number .given .1, sym (c .before .before .name-ends .ensures) ∙ c .before .if1 .taken) (ap Statement (c .read-fields .ensures))
@@ -27,18 +15,15 @@ returns c = rw (sym (c .before .before .before .before .before .before .read-nam
 returns-2 : tie.Need-returns-2
 returns-2 c = rw (sym (c .before .before .before .before .before .read-name .ensures), c .before .before .before .number .given .1, sym (c .before .name-ends .ensures) ∙ c .if1 .left)
 
-returns-3 : tie.Need-returns-3
-returns-3 c = rw (sym (c .before .before .read-name .ensures), c .enum-told .given .1)
-
 pub read-named-spec : {M : Type 1} → statement M
 read-named-spec =
     tie.close
     (tie.spec
-    read-name-requires
-    enum-known-number
-    name-ends-requires
+    (λ c κs. search needs)
+    (λ c. search needs)
+    (λ c κs. search needs)
     read-fields-requires
-    enum-told
+    (λ c. search needs)
     returns
     returns-2
-    returns-3)
+    (λ c. rw (sym (c .before .before .read-name .ensures), c .enum-told .given .1)))

@@ -11,15 +11,6 @@ use Rattle.data.proofs.Within.{Spans, value-span}
 use Rattle.data.proofs.constant_behind.Statement.{statement}
 use Rattle.data.proofs.constant_behind.Tie as tie
 
-read-value-requires : tie.Need-read-value-requires
-read-value-requires c κs = search needs
-
-enum-known-at : tie.Need-enum-known-at
-enum-known-at c = search needs
-
-enum-known-count : tie.Need-enum-known-count
-enum-known-count c = search needs
-
 constant-data-requires : tie.Need-constant-data-requires
 constant-data-requires c κs = let w = value-span (c .before .before .before .before .before .before .args .o .now) (c .before .before .before .before .before .before .args .h .kind) (c .before .before .before .before .before .before .args .h .next) in let s : Spans (c .before .before .before .before .before .before .args .o .now) (c .before .before .before .before .before .before .args .h .next + 1) (c .before .before .before .before .before .before .args .h .next) (Extent.Of (c .before .before .count .given .0 .0) (c .before .before .count .given .0 .1 .0)) = rw (sym (c .before .before .before .before .read-value .ensures), c .before .before .count .given .1) at w in omega arith
 
@@ -39,9 +30,9 @@ pub constant-behind-spec : {M : Type 1} → statement M
 constant-behind-spec =
     tie.close
     (tie.spec
-    read-value-requires
-    enum-known-at
-    enum-known-count
+    (λ c κs. search needs)
+    (λ c. search needs)
+    (λ c. search needs)
     constant-data-requires
     returns
     returns-2

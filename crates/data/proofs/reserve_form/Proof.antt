@@ -7,18 +7,6 @@ use Rattle.data.specs.Form.{reserveForm}
 use Rattle.data.proofs.reserve_form.Statement.{statement}
 use Rattle.data.proofs.reserve_form.Tie as tie
 
-read-head-requires : tie.Need-read-head-requires
-read-head-requires c κs = search needs
-
-enum-known-at : tie.Need-enum-known-at
-enum-known-at c = search needs
-
-enum-known-h : tie.Need-enum-known-h
-enum-known-h c = search needs
-
-reserve-data-requires : tie.Need-reserve-data-requires
-reserve-data-requires c κs = search needs
-
 returns : tie.Need-returns
 unfolding reserveForm
 returns c = rw (sym (c .before .before .before .read-head .ensures), c .before .at .given .1)
@@ -35,10 +23,10 @@ pub reserve-form-spec : {M : Type 1} → statement M
 reserve-form-spec =
     tie.close
     (tie.spec
-    read-head-requires
-    enum-known-at
-    enum-known-h
-    reserve-data-requires
+    (λ c κs. search needs)
+    (λ c. search needs)
+    (λ c. search needs)
+    (λ c κs. search needs)
     returns
     returns-2
     returns-3)

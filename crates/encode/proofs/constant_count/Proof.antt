@@ -4,17 +4,14 @@ use borrow.Author.Needs.{needs}
 use Rattle.encode.proofs.constant_count.Statement.{statement}
 use Rattle.encode.proofs.constant_count.Tie as tie
 
-returns : tie.Need-returns
-returns c = rw (eq-eqb _ _ (c .if1 .taken))
-
-returns-2 : tie.Need-returns-2
-returns-2 c = rw (ne-eqb _ _ (c .before .if1 .left), eq-eqb _ _ (c .if2 .taken))
-
-value-count-requires : tie.Need-value-count-requires
-value-count-requires c κs = search needs
-
 returns-3 : tie.Need-returns-3
 returns-3 c = rw (ne-eqb _ _ (c .before .before .if1 .left), ne-eqb _ _ (c .before .if2 .left)) (c .value-count .ensures .0)
 
 pub constant-count-spec : {M : Type 1} → statement M
-constant-count-spec = tie.close (tie.spec returns returns-2 value-count-requires returns-3)
+constant-count-spec =
+    tie.close
+    (tie.spec
+    (λ c. rw (eq-eqb _ _ (c .if1 .taken)))
+    (λ c. rw (ne-eqb _ _ (c .before .if1 .left), eq-eqb _ _ (c .if2 .taken)))
+    (λ c κs. search needs)
+    returns-3)

@@ -4,14 +4,10 @@ use borrow.Author.Tests.{eq-eqb, ne-eqb}
 use Rattle.encode.proofs.constant_size.Statement.{statement}
 use Rattle.encode.proofs.constant_size.Tie as tie
 
-returns : tie.Need-returns
-returns c = (rw (eq-eqb _ _ (c .if1 .taken)), omega arith)
-
-returns-2 : tie.Need-returns-2
-returns-2 c = (rw (ne-eqb _ _ (c .before .if1 .left), eq-eqb _ _ (c .if2 .taken)), omega arith)
-
-returns-3 : tie.Need-returns-3
-returns-3 c = (rw (ne-eqb _ _ (c .before .if1 .left), ne-eqb _ _ (c .if2 .left)), omega arith)
-
 pub constant-size-spec : {M : Type 1} → statement M
-constant-size-spec = tie.close (tie.spec returns returns-2 returns-3)
+constant-size-spec =
+    tie.close
+    (tie.spec
+    (λ c. (rw (eq-eqb _ _ (c .if1 .taken)), omega arith))
+    (λ c. (rw (ne-eqb _ _ (c .before .if1 .left), eq-eqb _ _ (c .if2 .taken)), omega arith))
+    (λ c. (rw (ne-eqb _ _ (c .before .if1 .left), ne-eqb _ _ (c .if2 .left)), omega arith)))

@@ -8,29 +8,8 @@ use borrow.Author.Needs.{needs}
 use Rattle.encode.proofs.put_address.Statement.{statement}
 use Rattle.encode.proofs.put_address.Tie as tie
 
-amount-of-requires : tie.Need-amount-of-requires
-amount-of-requires c κs = search needs
-
-cast-high : tie.Need-cast-high
-cast-high c = search needs
-
-cast-low : tie.Need-cast-low
-cast-low c = search needs
-
-slice-write-m : tie.Need-slice-write-m
-slice-write-m c = let p = rw (eq-eqb _ _ (c .if1 .taken)) at (c .before .before .before .pre) in omega arith
-
-same-length : tie.Need-same-length
-same-length c = search needs
-
-returns : tie.Need-returns
-returns c = rw (address-one _ _ (c .if1 .taken), c .before .amount-of .ensures)
-
 put-three-requires : tie.Need-put-three-requires
 put-three-requires c κs = rw (ne-eqb _ _ (c .before .before .if1 .left), eq-eqb _ _ (c .before .if2 .taken)) at (c .before .before .before .before .before .pre)
-
-same-length-2 : tie.Need-same-length-2
-same-length-2 c = search needs
 
 returns-2 : tie.Need-returns-2
 returns-2 c =
@@ -40,9 +19,6 @@ returns-2 c =
 put-word-requires : tie.Need-put-word-requires
 put-word-requires c κs = rw (ne-eqb _ _ (c .before .before .if1 .left), ne-eqb _ _ (c .before .if2 .left)) at (c .before .before .before .before .before .pre)
 
-same-length-3 : tie.Need-same-length-3
-same-length-3 c = search needs
-
 returns-3 : tie.Need-returns-3
 returns-3 c = rw (address-two _ _ (c .before .before .before .before .before .if1 .left) (c .before .before .before .before .if2 .left), c .before .before .put-word .ensures, c .before .before .before .before .before .before .amount-of .ensures)
 
@@ -50,15 +26,15 @@ pub put-address-spec : {M : Type 1} → statement M
 put-address-spec =
     tie.close
     (tie.spec
-    amount-of-requires
-    cast-high
-    cast-low
-    slice-write-m
-    same-length
-    returns
+    (λ c κs. search needs)
+    (λ c. search needs)
+    (λ c. search needs)
+    (λ c. let p = rw (eq-eqb _ _ (c .if1 .taken)) at (c .before .before .before .pre) in omega arith)
+    (λ c. search needs)
+    (λ c. rw (address-one _ _ (c .if1 .taken), c .before .amount-of .ensures))
     put-three-requires
-    same-length-2
+    (λ c. search needs)
     returns-2
     put-word-requires
-    same-length-3
+    (λ c. search needs)
     returns-3)

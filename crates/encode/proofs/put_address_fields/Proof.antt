@@ -17,35 +17,11 @@ Inv-loop copies size m₀ to count i₀ m i = (to + count ≤ length m₀) × (2
 abbrev μ-loop : tie.MeasureT-loop
 μ-loop copies size m₀ to count i₀ m i = count - i
 
-constant-count-requires : tie.Need-constant-count-requires Inv-loop μ-loop
-constant-count-requires c κs = search needs
-
 loop-holds : tie.Need-loop-holds Inv-loop μ-loop
 loop-holds c = let e = c .constant-count .ensures in let p = c .before .before .pre in (omega arith, omega arith, refl, rw (add-zero, sub-zero))
 
-mul-m : tie.Need-mul-m Inv-loop μ-loop
-mul-m c = omega arith
-
-cast-m : tie.Need-cast-m Inv-loop μ-loop
-cast-m c = omega arith
-
-add-m : tie.Need-add-m Inv-loop μ-loop
-add-m c = omega arith
-
-slice-write-m : tie.Need-slice-write-m Inv-loop μ-loop
-slice-write-m c = omega arith
-
-add-i : tie.Need-add-i Inv-loop μ-loop
-add-i c = omega arith
-
-loop-less : tie.Need-loop-less Inv-loop μ-loop
-loop-less c = omega arith
-
 loop-again : tie.Need-loop-again Inv-loop μ-loop
 loop-again c = let l = c .before .loop in (l .inv .0, l .inv .1, simp length-set (l .inv .2), l .inv .3 ∙ apart-more (l .m) (c .before .before .before .before .args .to) (l .i) (c .before .before .constant-count .result) (c .loop-test .taken))
-
-same-length : tie.Need-same-length Inv-loop μ-loop
-same-length c = c .before .loop .inv .2
 
 returns : tie.Need-returns Inv-loop μ-loop
 returns c =
@@ -58,14 +34,14 @@ put-address-fields-spec =
     (tie.spec
     Inv-loop
     μ-loop
-    constant-count-requires
+    (λ c κs. search needs)
     loop-holds
-    mul-m
-    cast-m
-    add-m
-    slice-write-m
-    add-i
-    loop-less
+    (λ c. omega arith)
+    (λ c. omega arith)
+    (λ c. omega arith)
+    (λ c. omega arith)
+    (λ c. omega arith)
+    (λ c. omega arith)
     loop-again
-    same-length
+    (λ c. c .before .loop .inv .2)
     returns)

@@ -16,23 +16,11 @@ Inv-loop copies size v m₀ to each left₀ at₀ m left at = (at + length (text
 abbrev μ-loop : tie.MeasureT-loop
 μ-loop copies size v m₀ to each left₀ at₀ m left at = left
 
-constant-size-requires : tie.Need-constant-size-requires Inv-loop μ-loop
-constant-size-requires c κs = search needs
-
-loop-holds : tie.Need-loop-holds Inv-loop μ-loop
-loop-holds c = (c .before .before .pre, refl, refl)
-
 put-address-requires : tie.Need-put-address-requires Inv-loop μ-loop
 put-address-requires c κs = let r = copies-room (c .before .before .loop .left) (c .before .before .before .before .before .args .size) (c .before .before .before .before .before .args .v) (c .before .loop-test .taken) in omega arith
 
 add-at : tie.Need-add-at Inv-loop μ-loop
 add-at c = let r = copies-room (c .before .before .before .before .before .loop .left) (c .before .before .before .before .before .before .before .before .args .size) (c .before .before .before .before .before .before .before .before .args .v) (c .before .before .before .before .loop-test .taken) in omega arith
-
-sub-left : tie.Need-sub-left Inv-loop μ-loop
-sub-left c = omega arith
-
-loop-less : tie.Need-loop-less Inv-loop μ-loop
-loop-less c = omega arith
 
 loop-again : tie.Need-loop-again Inv-loop μ-loop
 loop-again c =
@@ -43,24 +31,18 @@ loop-again c =
       l .inv .2 ∙ copies-more (l .m) (w .last .1 .1 .0) (l .at) (l .left) (c .before .before .before .before .before .before .constant-size .result) (addressPieces (a .size) (a .v)) (c .before .before .before .before .loop-test .taken) (w .ensures) (constant-size (a .size) (a .v) ∙ sym each),
     )
 
-same-length : tie.Need-same-length Inv-loop μ-loop
-same-length c = c .before .loop .inv .1
-
-returns : tie.Need-returns Inv-loop μ-loop
-returns c = let l = c .before .loop in sym (l .inv .2 ∙ copies-done (l .m) (l .at) (l .left) _ (omega arith))
-
 pub put-addresses-spec : {M : Type 1} → statement M
 put-addresses-spec =
     tie.close
     (tie.spec
     Inv-loop
     μ-loop
-    constant-size-requires
-    loop-holds
+    (λ c κs. search needs)
+    (λ c. (c .before .before .pre, refl, refl))
     put-address-requires
     add-at
-    sub-left
-    loop-less
+    (λ c. omega arith)
+    (λ c. omega arith)
     loop-again
-    same-length
-    returns)
+    (λ c. c .before .loop .inv .1)
+    (λ c. let l = c .before .loop in sym (l .inv .2 ∙ copies-done (l .m) (l .at) (l .left) _ (omega arith))))

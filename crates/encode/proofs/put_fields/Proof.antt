@@ -8,20 +8,11 @@ use borrow.Author.Needs.{needs}
 use Rattle.encode.proofs.put_fields.Statement.{statement}
 use Rattle.encode.proofs.put_fields.Tie as tie
 
-enum-known-st : tie.Need-enum-known-st
-enum-known-st c = search needs
-
 put-two-fields-requires : tie.Need-put-two-fields-requires
 put-two-fields-requires c κs = rw (c .before .before .st .given .1, two-count) at (c .before .before .before .before .before .pre .1)
 
-enum-known-st-2 : tie.Need-enum-known-st-2
-enum-known-st-2 c = search needs
-
 put-operand-field-requires : tie.Need-put-operand-field-requires
 put-operand-field-requires c κs = rw (c .before .before .st2 .given .1, one-fields, operand-count) at (c .before .before .before .before .before .pre .1)
-
-enum-known-st-3 : tie.Need-enum-known-st-3
-enum-known-st-3 c = search needs
 
 put-address-fields-requires : tie.Need-put-address-fields-requires
 put-address-fields-requires c κs =
@@ -29,41 +20,29 @@ put-address-fields-requires c κs =
     let short = rw (e .1) at (c .before .before .before .before .before .pre .0) in
     (rw (e .1, addresses-count) at (c .before .before .before .before .before .pre .1), omega arith)
 
-same-length : tie.Need-same-length
-same-length c = search needs
-
 returns : tie.Need-returns
 returns c = rw (c .before .before .before .before .before .st .given .1, two-fields) (c .before .before .put-two-fields .ensures)
-
-same-length-2 : tie.Need-same-length-2
-same-length-2 c = search needs
 
 returns-2 : tie.Need-returns-2
 returns-2 c = rw (c .before .before .before .before .before .st2 .given .1, one-fields) (c .before .before .put-operand-field .ensures)
 
-same-length-3 : tie.Need-same-length-3
-same-length-3 c = search needs
-
 returns-3 : tie.Need-returns-3
 returns-3 c = rw (c .before .before .before .before .before .st3 .given .1, addresses-fields) (c .before .before .put-address-fields .ensures)
-
-returns-4 : tie.Need-returns-4
-returns-4 c = rw (fieldless (c .before .before .args .st) (c .match .keys4))
 
 pub put-fields-spec : {M : Type 1} → statement M
 put-fields-spec =
     tie.close
     (tie.spec
-    enum-known-st
+    (λ c. search needs)
     put-two-fields-requires
-    enum-known-st-2
+    (λ c. search needs)
     put-operand-field-requires
-    enum-known-st-3
+    (λ c. search needs)
     put-address-fields-requires
-    same-length
+    (λ c. search needs)
     returns
-    same-length-2
+    (λ c. search needs)
     returns-2
-    same-length-3
+    (λ c. search needs)
     returns-3
-    returns-4)
+    (λ c. rw (fieldless (c .before .before .args .st) (c .match .keys4))))

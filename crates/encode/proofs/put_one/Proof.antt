@@ -9,24 +9,6 @@ use borrow.Author.Needs.{needs}
 use Rattle.encode.proofs.put_one.Statement.{statement}
 use Rattle.encode.proofs.put_one.Tie as tie
 
-mode-of-requires : tie.Need-mode-of-requires
-mode-of-requires c κs = search needs
-
-operation-byte-requires : tie.Need-operation-byte-requires
-operation-byte-requires c κs = search needs
-
-put-codes-requires : tie.Need-put-codes-requires
-put-codes-requires c κs = search needs
-
-add-put-operand : tie.Need-add-put-operand
-add-put-operand c = search needs
-
-put-operand-requires : tie.Need-put-operand-requires
-put-operand-requires c κs = search needs
-
-same-length : tie.Need-same-length
-same-length c = search needs
-
 returns : tie.Need-returns
 returns c =
     let a = c .before .before .before .before .before .before .before .before .before .before .before .args in let p = c .before .before .before .before .before .before .put-codes in let x = c .before .before .put-operand in
@@ -39,10 +21,10 @@ pub put-one-spec : {M : Type 1} → statement M
 put-one-spec =
     tie.close
     (tie.spec
-    mode-of-requires
-    operation-byte-requires
-    put-codes-requires
-    add-put-operand
-    put-operand-requires
-    same-length
+    (λ c κs. search needs)
+    (λ c κs. search needs)
+    (λ c κs. search needs)
+    (λ c. search needs)
+    (λ c κs. search needs)
+    (λ c. search needs)
     returns)

@@ -11,39 +11,6 @@ use borrow.Author.Needs.{needs}
 use Rattle.encode.proofs.put_two.Statement.{statement}
 use Rattle.encode.proofs.put_two.Tie as tie
 
-mode-of-requires : tie.Need-mode-of-requires
-mode-of-requires c κs = search needs
-
-mode-of-requires-2 : tie.Need-mode-of-requires-2
-mode-of-requires-2 c κs = search needs
-
-operation-byte-requires : tie.Need-operation-byte-requires
-operation-byte-requires c κs = search needs
-
-put-codes-requires : tie.Need-put-codes-requires
-put-codes-requires c κs = search needs
-
-add-put-operand : tie.Need-add-put-operand
-add-put-operand c = search needs
-
-put-operand-requires : tie.Need-put-operand-requires
-put-operand-requires c κs = search needs
-
-add-put-operand-2 : tie.Need-add-put-operand-2
-add-put-operand-2 c = search needs
-
-operand-size-requires : tie.Need-operand-size-requires
-operand-size-requires c κs = search needs
-
-add-put-operand-3 : tie.Need-add-put-operand-3
-add-put-operand-3 c = search needs
-
-put-operand-requires-2 : tie.Need-put-operand-requires-2
-put-operand-requires-2 c κs = search needs
-
-same-length : tie.Need-same-length
-same-length c = search needs
-
 returns : tie.Need-returns
 returns c =
     let a = c .before .before .before .before .before .before .before .before .before .before .before .before .before .before .before .before .before .args in let p = c .before .before .before .before .before .before .before .before .before .before .before .put-codes in let x = c .before .before .before .before .before .before .before .put-operand in let y = c .before .before .put-operand2 in
@@ -57,15 +24,15 @@ pub put-two-spec : {M : Type 1} → statement M
 put-two-spec =
     tie.close
     (tie.spec
-    mode-of-requires
-    mode-of-requires-2
-    operation-byte-requires
-    put-codes-requires
-    add-put-operand
-    put-operand-requires
-    add-put-operand-2
-    operand-size-requires
-    add-put-operand-3
-    put-operand-requires-2
-    same-length
+    (λ c κs. search needs)
+    (λ c κs. search needs)
+    (λ c κs. search needs)
+    (λ c κs. search needs)
+    (λ c. search needs)
+    (λ c κs. search needs)
+    (λ c. search needs)
+    (λ c κs. search needs)
+    (λ c. search needs)
+    (λ c κs. search needs)
+    (λ c. search needs)
     returns)

@@ -16,18 +16,9 @@ returns-2 : tie.Need-returns-2
 unfolding ended
 returns-2 c = rw (c .before .if1 .left, c .if2 .taken)
 
-end-absolute-requires : tie.Need-end-absolute-requires
-end-absolute-requires c κs = search needs
-
 returns-3 : tie.Need-returns-3
 unfolding ended
 returns-3 c = rw (c .before .before .before .if1 .left, c .before .before .if2 .left, eq-eqb _ _ (c .before .if3 .taken)) (c .end-absolute .ensures)
-
-sub-if5 : tie.Need-sub-if5
-sub-if5 c = search needs
-
-end-relocatable-requires : tie.Need-end-relocatable-requires
-end-relocatable-requires c κs = search needs
 
 returns-4 : tie.Need-returns-4
 unfolding ended
@@ -47,10 +38,10 @@ end-spec =
     (tie.spec
     returns
     returns-2
-    end-absolute-requires
+    (λ c κs. search needs)
     returns-3
-    sub-if5
-    end-relocatable-requires
+    (λ c. search needs)
+    (λ c κs. search needs)
     returns-4
     returns-5
     returns-6)

@@ -22,23 +22,8 @@ Inv-loop s at table count here sum₀ minus₀ p₀ sum minus p = (sum .plus + s
 abbrev μ-loop : tie.MeasureT-loop
 μ-loop s at table count here sum₀ minus₀ p₀ sum minus p = length s - p
 
-nothing-requires : tie.Need-nothing-requires Inv-loop μ-loop
-nothing-requires c κs = search needs
-
-loop-holds : tie.Need-loop-holds Inv-loop μ-loop
-loop-holds c = rw (c .nothing .ensures) (omega arith, refl)
-
-multiply-requires : tie.Need-multiply-requires Inv-loop μ-loop
-multiply-requires c κs = (c .before .before .before .before .pre .0, c .before .before .before .before .pre .1)
-
-enum-told : tie.Need-enum-told Inv-loop μ-loop
-enum-told c = search needs
-
 returns : tie.Need-returns Inv-loop μ-loop
 returns c = let l = c .before .before .before .loop in sym (run-none (find (namesIn (c .before .before .before .before .before .before .before .args .count) (c .before .before .before .before .before .before .before .args .table .now))) (c .before .before .before .before .before .before .before .args .here) (c .before .before .before .before .before .before .before .args .s .now) (l .sum) (l .minus) (l .p) (sym (c .before .before .multiply .ensures) ∙ c .enum-told .given .1)) ∙ l .inv .1 ∙ run-whole (find (namesIn (c .before .before .before .before .before .before .before .args .count) (c .before .before .before .before .before .before .before .args .table .now))) (c .before .before .before .before .before .before .before .args .here) (c .before .before .before .before .before .before .before .args .s .now) (c .before .before .before .before .before .before .before .args .at)
-
-enum-known-h : tie.Need-enum-known-h Inv-loop μ-loop
-enum-known-h c = search needs
 
 -- the product at the position
 gave : (c : tie.After-h Inv-loop μ-loop) → let a = c .before .before .before .before .before .before .before .args in
@@ -47,12 +32,6 @@ gave c = sym (c .before .before .multiply .ensures) ∙ c .h .given .1
 
 run-on-requires : tie.Need-run-on-requires Inv-loop μ-loop
 run-on-requires c κs = let w = product-inside (find (namesIn (c .before .before .before .before .before .before .before .before .args .count) (c .before .before .before .before .before .before .before .before .args .table .now))) (c .before .before .before .before .before .before .before .before .args .here) (c .before .before .before .before .before .before .before .before .args .s .now) (c .before .before .before .before .loop .p) (c .before .h .given .0 .0) (c .before .h .given .0 .1 .0) (gave (c .before)) in (omega arith, omega arith)
-
-joins-at-requires : tie.Need-joins-at-requires Inv-loop μ-loop
-joins-at-requires c κs = search needs
-
-byte-at-requires : tie.Need-byte-at-requires Inv-loop μ-loop
-byte-at-requires c κs = search needs
 
 add-p : tie.Need-add-p Inv-loop μ-loop
 add-p c = omega (arith, joins-inside (c .before .before .before .before .before .before .before .before .before .before .before .before .args .s .now) (c .before .before .before .before .before .h .given .0 .1 .0) (sym (c .before .before .joins-at .ensures) ∙ c .before .if1 .taken))
@@ -70,9 +49,6 @@ loop-again c = let l = c .before .before .before .before .before .before .before
           ∙ sym (run-more (find (namesIn (c .before .before .before .before .before .before .before .before .before .before .before .before .args .count) (c .before .before .before .before .before .before .before .before .before .before .before .before .args .table .now))) (c .before .before .before .before .before .before .before .before .before .before .before .before .args .here) (c .before .before .before .before .before .before .before .before .before .before .before .before .args .s .now) (c .before .before .before .before .before .before .before .before .loop .sum) (c .before .before .before .before .before .before .before .before .loop .minus) (c .before .before .before .before .before .before .before .before .loop .p) (c .before .before .before .before .before .h .given .0 .0) (c .before .before .before .before .before .h .given .0 .1 .0) (gave (c .before .before .before .before .before)) (sym (c .before .before .joins-at .ensures) ∙ c .before .if1 .taken)) ∙ l .inv .1,
     )
 
-end-requires : tie.Need-end-requires Inv-loop μ-loop
-end-requires c κs = search needs
-
 returns-2 : tie.Need-returns-2 Inv-loop μ-loop
 returns-2 c = c .end .ensures ∙ ap ended (c .before .before .before .run-on .ensures) ∙ sym (run-last (find (namesIn (c .before .before .before .before .before .before .before .before .before .before .before .before .args .count) (c .before .before .before .before .before .before .before .before .before .before .before .before .args .table .now))) (c .before .before .before .before .before .before .before .before .before .before .before .before .args .here) (c .before .before .before .before .before .before .before .before .before .before .before .before .args .s .now) (c .before .before .before .before .before .before .before .before .loop .sum) (c .before .before .before .before .before .before .before .before .loop .minus) (c .before .before .before .before .before .before .before .before .loop .p) (c .before .before .before .before .before .h .given .0 .0) (c .before .before .before .before .before .h .given .0 .1 .0) (gave (c .before .before .before .before .before)) (sym (c .before .before .joins-at .ensures) ∙ c .before .if1 .left)) ∙ c .before .before .before .before .before .before .before .before .loop .inv .1 ∙ run-whole (find (namesIn (c .before .before .before .before .before .before .before .before .before .before .before .before .args .count) (c .before .before .before .before .before .before .before .before .before .before .before .before .args .table .now))) (c .before .before .before .before .before .before .before .before .before .before .before .before .args .here) (c .before .before .before .before .before .before .before .before .before .before .before .before .args .s .now) (c .before .before .before .before .before .before .before .before .before .before .before .before .args .at)
 
@@ -82,17 +58,17 @@ evaluate-spec =
     (tie.spec
     Inv-loop
     μ-loop
-    nothing-requires
-    loop-holds
-    multiply-requires
-    enum-told
+    (λ c κs. search needs)
+    (λ c. rw (c .nothing .ensures) (omega arith, refl))
+    (λ c κs. (c .before .before .before .before .pre .0, c .before .before .before .before .pre .1))
+    (λ c. search needs)
     returns
-    enum-known-h
+    (λ c. search needs)
     run-on-requires
-    joins-at-requires
-    byte-at-requires
+    (λ c κs. search needs)
+    (λ c κs. search needs)
     add-p
     loop-less
     loop-again
-    end-requires
+    (λ c κs. search needs)
     returns-2)

@@ -11,27 +11,6 @@ use borrow.Author.Needs.{needs}
 use Rattle.expressions.proofs.multiply.Statement.{statement}
 use Rattle.expressions.proofs.multiply.Tie as tie
 
-read-term-requires : tie.Need-read-term-requires
-read-term-requires c κs = search needs
-
-end-of-requires : tie.Need-end-of-requires
-end-of-requires c κs = search needs
-
-enum-told : tie.Need-enum-told
-enum-told c = search needs
-
-enum-known-q : tie.Need-enum-known-q
-enum-known-q c = search needs
-
-factor-of-requires : tie.Need-factor-of-requires
-factor-of-requires c κs = search needs
-
-begun-requires : tie.Need-begun-requires
-begun-requires c κs = search needs
-
-multiply-on-requires : tie.Need-multiply-on-requires
-multiply-on-requires c κs = search needs
-
 -- the end of the first term
 read : (c : tie.After-end-of) → endOf (termAt (c .before .before .before .before .args .s .now) (c .before .before .before .before .args .at)) ≡ c .end-of .result
 read c = ap endOf (sym (c .before .read-term .ensures)) ∙ sym (c .end-of .ensures)
@@ -47,12 +26,12 @@ pub multiply-spec : {M : Type 1} → statement M
 multiply-spec =
     tie.close
     (tie.spec
-    read-term-requires
-    end-of-requires
-    enum-told
-    enum-known-q
-    factor-of-requires
-    begun-requires
-    multiply-on-requires
+    (λ c κs. search needs)
+    (λ c κs. search needs)
+    (λ c. search needs)
+    (λ c. search needs)
+    (λ c κs. search needs)
+    (λ c κs. search needs)
+    (λ c κs. search needs)
     returns
     returns-2)

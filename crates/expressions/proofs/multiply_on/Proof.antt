@@ -25,27 +25,12 @@ Inv-loop s at table count here held₀ q₀ held q = heldOn (find (namesIn count
 abbrev μ-loop : tie.MeasureT-loop
 μ-loop s at table count here held₀ q₀ held q = length s - q
 
-loop-holds : tie.Need-loop-holds Inv-loop μ-loop
-loop-holds c = refl
-
-byte-at-requires : tie.Need-byte-at-requires Inv-loop μ-loop
-byte-at-requires c κs = search needs
-
 -- a `*` stands at the position
 star : (c : tie.Then1 Inv-loop μ-loop) → stands "*" (c .before .before .before .before .before .args .s .now) (c .before .before .loop .q) ≡ true
 star c = is-byte (c .before .byte-at .ensures) (c .if1 .taken)
 
 add-read-term : tie.Need-add-read-term Inv-loop μ-loop
 add-read-term c = omega (arith, stands-inside 42 (c .before .before .before .before .before .args .s .now) (c .before .before .loop .q) (omega arith) (star c))
-
-read-term-requires : tie.Need-read-term-requires Inv-loop μ-loop
-read-term-requires c κs = search needs
-
-end-of-requires : tie.Need-end-of-requires Inv-loop μ-loop
-end-of-requires c κs = search needs
-
-enum-told : tie.Need-enum-told Inv-loop μ-loop
-enum-told c = search needs
 
 -- the end of the term behind it
 read : (c : tie.After-end-of Inv-loop μ-loop) → endOf (termAt (c .before .before .before .before .before .before .before .args .s .now) (c .before .before .before .before .loop .q + 1)) ≡ c .end-of .result
@@ -54,14 +39,8 @@ read c = ap endOf (sym (c .before .read-term .ensures)) ∙ sym (c .end-of .ensu
 returns : tie.Need-returns Inv-loop μ-loop
 returns c = let l = c .before .before .before .before .before .before .loop in sym (held-fail (find (namesIn (c .before .before .before .before .before .before .before .before .before .args .count) (c .before .before .before .before .before .before .before .before .before .args .table .now))) (c .before .before .before .before .before .before .before .before .before .args .here) (c .before .before .before .before .before .before .before .before .before .args .s .now) (l .held) (l .q) (c .enum-told .given .0 .0) (star (c .before .before .before .before)) (read (c .before .before) ∙ c .enum-told .given .1)) ∙ l .inv
 
-enum-known-r : tie.Need-enum-known-r Inv-loop μ-loop
-enum-known-r c = search needs
-
 factor-of-requires : tie.Need-factor-of-requires Inv-loop μ-loop
 factor-of-requires c κs = (c .before .before .before .before .before .before .before .before .before .before .pre .0, c .before .before .before .before .before .before .before .before .before .before .pre .1)
-
-multiplied-requires : tie.Need-multiplied-requires Inv-loop μ-loop
-multiplied-requires c κs = search needs
 
 loop-less : tie.Need-loop-less Inv-loop μ-loop
 loop-less c = let w = end-within (c .before .before .before .before .before .before .before .before .before .before .before .before .args .s .now) (c .before .before .before .before .before .before .before .before .before .loop .q + 1) (c .before .before .before .r .given .0 .0) (read (c .before .before .before .before .before) ∙ c .before .before .before .r .given .1) in omega arith
@@ -80,16 +59,16 @@ multiply-on-spec =
     (tie.spec
     Inv-loop
     μ-loop
-    loop-holds
-    byte-at-requires
+    (λ c. refl)
+    (λ c κs. search needs)
     add-read-term
-    read-term-requires
-    end-of-requires
-    enum-told
+    (λ c κs. search needs)
+    (λ c κs. search needs)
+    (λ c. search needs)
     returns
-    enum-known-r
+    (λ c. search needs)
     factor-of-requires
-    multiplied-requires
+    (λ c κs. search needs)
     loop-less
     loop-again
     returns-2)

@@ -11,12 +11,6 @@ use borrow.Author.Needs.{needs}
 use Rattle.expressions.proofs.value_in.Statement.{statement}
 use Rattle.expressions.proofs.value_in.Tie as tie
 
-enum-known-e : tie.Need-enum-known-e
-enum-known-e c = search needs
-
-returns : tie.Need-returns
-returns c = rw (c .before .e .given .1)
-
 others : (e : Evaluated) → OneOf (1 ∷ 2 ∷ 3 ∷ 4 ∷ []) (tagOf the-type e) → MaybeValue.Nothing ≡ valueIn e
 others (Evaluated.Good v) k = absurd (miss (1 ∷ 2 ∷ 3 ∷ 4 ∷ []) 0 tt k)
 others Evaluated.Malformed k = refl
@@ -24,8 +18,10 @@ others Evaluated.Undefined k = refl
 others Evaluated.WrongKind k = refl
 others (Evaluated.OutOfRange x) k = refl
 
-returns-2 : tie.Need-returns-2
-returns-2 c = others (c .before .args .e) (c .match .keys2)
-
 pub value-in-spec : {M : Type 1} → statement M
-value-in-spec = tie.close (tie.spec enum-known-e returns returns-2)
+value-in-spec =
+    tie.close
+    (tie.spec
+    (λ c. search needs)
+    (λ c. rw (c .before .e .given .1))
+    (λ c. others (c .before .args .e) (c .match .keys2)))

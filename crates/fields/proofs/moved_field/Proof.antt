@@ -7,18 +7,10 @@ use borrow.Author.Needs.{needs}
 use Rattle.fields.proofs.moved_field.Statement.{statement}
 use Rattle.fields.proofs.moved_field.Tie as tie
 
-add-word-at : tie.Need-add-word-at
-add-word-at c = search needs
-
-word-at-requires : tie.Need-word-at-requires
-word-at-requires c κs = search needs
-
-plus-requires : tie.Need-plus-requires
-plus-requires c κs = search needs
-
 returns : tie.Need-returns
 returns c = let a = c .before .before .before .before .args in
     c .plus .ensures ∙ ap (λ v. movedBy (a .d) (record { 0 = v })) (c .before .word-at .ensures ∙ sym (word-part (a .book .now) (a .p .text) (a .p .size) (a .offset) (omega arith)))
 
 pub moved-field-spec : {M : Type 1} → statement M
-moved-field-spec = tie.close (tie.spec add-word-at word-at-requires plus-requires returns)
+moved-field-spec =
+    tie.close (tie.spec (λ c. search needs) (λ c κs. search needs) (λ c κs. search needs) returns)

@@ -9,15 +9,6 @@ use borrow.Author.Needs.{needs}
 use Rattle.fields.proofs.offset_at.Statement.{statement}
 use Rattle.fields.proofs.offset_at.Tie as tie
 
-add-at : tie.Need-add-at
-add-at c = search needs
-
-shared-slice-read-wide : tie.Need-shared-slice-read-wide
-shared-slice-read-wide c = search needs
-
-wide-requires : tie.Need-wide-requires
-wide-requires c κs = search needs
-
 returns : tie.Need-returns
 returns c =
     let a = c .before .before .before .before .args in
@@ -26,4 +17,5 @@ returns c =
     (e, omega arith)
 
 pub offset-at-spec : {M : Type 1} → statement M
-offset-at-spec = tie.close (tie.spec add-at shared-slice-read-wide wide-requires returns)
+offset-at-spec =
+    tie.close (tie.spec (λ c. search needs) (λ c. search needs) (λ c κs. search needs) returns)

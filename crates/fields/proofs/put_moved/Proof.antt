@@ -5,8 +5,8 @@ use Prim.Native.Nat.{ℕ, _+_, _-_, _≤_}
 use mathlib.Core.Path.{_≡_, refl, sym, ap, subst, _∙_}
 use mathlib.Core.List.{List, _∷_}
 use mathlib.Core.Bool.{false}
-use lib.ListN.{length, drop, drop-of-length-le}
-use Rattle.values.proofs.Laws.{clash, drop-turn, part-between, between-length}
+use lib.ListN.{length, drop, drop-of-length-le, length-take}
+use Rattle.values.proofs.Laws.{clash, drop-turn, part-between}
 use Rattle.book.specs.Reading.{recordThere}
 use Rattle.fields.specs.Fields.{overIn}
 use lib.Seq.{sets}
@@ -22,21 +22,6 @@ Inv-loop book p d m₀ to text end count i₀ m i =
 
 abbrev μ-loop : tie.MeasureT-loop
 μ-loop book p d m₀ to text end count i₀ m i = count - i
-
-add-end : tie.Need-add-end Inv-loop μ-loop
-add-end c = search needs
-
-sub-put-bytes : tie.Need-sub-put-bytes Inv-loop μ-loop
-sub-put-bytes c = search needs
-
-part-put-bytes-start : tie.Need-part-put-bytes-start Inv-loop μ-loop
-part-put-bytes-start c = search needs
-
-part-put-bytes-end : tie.Need-part-put-bytes-end Inv-loop μ-loop
-part-put-bytes-end c = search needs
-
-put-bytes-requires : tie.Need-put-bytes-requires Inv-loop μ-loop
-put-bytes-requires c κs = let a = c .before .before .before .before .before .args in rw (between-length (a .book .now) (a .p .text) (a .p .size) (c .before .before .before .before .before .pre .0 .text)) (c .before .before .before .before .before .pre .1 .1)
 
 laid : (c : tie.After-put-bytes Inv-loop μ-loop) → c .put-bytes .last .0 ≡ sets (c .before .before .before .before .before .before .args .m .now) (c .before .before .before .before .before .before .args .to) (recordThere (c .before .before .before .before .before .before .args .book .now) (c .before .before .before .before .before .before .args .p) .text)
 laid c = let a = c .before .before .before .before .before .before .args in c .put-bytes .ensures ∙ ap (λ t. sets (a .m .now) (a .to) t) (part-between (a .book .now) (a .p .text) (a .p .size))
@@ -61,24 +46,12 @@ left c =
     let n = fields-length (a .book .now) (a .p) (c .before .before .before .before .before .before .before .before .before .before .before .pre .0) in
     drop-turn (recordThere (a .book .now) (a .p) .fields) i (omega arith) ∙ ap (λ o. o ∷ drop (i + 1) (recordThere (a .book .now) (a .p) .fields)) (sym (c .offset-at .ensures .0))
 
-enum-told : tie.Need-enum-told Inv-loop μ-loop
-enum-told c = search needs
-
 -- no field is over
 not-over : (c : tie.After-enum-told Inv-loop μ-loop) → ⊥
 not-over c =
     let a = c .before .before .before .before .before .before .before .before .before .before .before .before .before .before .args in let l = c .before .before .before .before .before .loop in let o = c .before .before .before .offset-at .result in let text = recordThere (a .book .now) (a .p) .text in
     let no-more = sym (l .inv .2) ∙ ap (λ os. overIn (a .d) text os) (left (c .before .before .before)) ∙ over-here (a .d) text o _ (sym (c .enum-told .given .1) ∙ c .before .before .moved-field .ensures) in
     clash (cc no-more)
-
-same-length : tie.Need-same-length Inv-loop μ-loop
-same-length c = absurd (not-over c)
-
-returns : tie.Need-returns Inv-loop μ-loop
-returns c = absurd (not-over c)
-
-enum-known-moved : tie.Need-enum-known-moved Inv-loop μ-loop
-enum-known-moved c = search needs
 
 -- the two bytes of the field lie inside m
 room : (c : tie.After-offset-at Inv-loop μ-loop) → c .before .before .before .before .before .before .before .before .before .before .before .args .to + c .offset-at .result + 2 ≤ length (c .before .before .loop .m)
@@ -88,18 +61,6 @@ room c =
     let same = c .before .before .loop .inv .1 in
     let size = c .before .before .before .before .before .put-bytes .kept .0 in
     omega arith
-
-add-put-word : tie.Need-add-put-word Inv-loop μ-loop
-add-put-word c = omega (arith, room (c .before .before .before .before .before))
-
-put-word-requires : tie.Need-put-word-requires Inv-loop μ-loop
-put-word-requires c κs = room (c .before .before .before .before .before)
-
-add-i : tie.Need-add-i Inv-loop μ-loop
-add-i c = omega arith
-
-loop-less : tie.Need-loop-less Inv-loop μ-loop
-loop-less c = omega arith
 
 loop-again : tie.Need-loop-again Inv-loop μ-loop
 loop-again c =
@@ -119,9 +80,6 @@ loop-again c =
           (subst (λ (os : List ℕ). Moving (c .before .before .before .before .before .before .before .before .before .before .before .before .before .put-bytes .last .0) (a .to) (a .d) (recordThere (a .book .now) (a .p)) os (l .m)) rest (l .inv .3)) (omega arith) to (w .ensures),
     )
 
-same-length-2 : tie.Need-same-length-2 Inv-loop μ-loop
-same-length-2 c = c .before .loop .inv .1 ∙ c .before .before .before .before .put-bytes .kept .0
-
 returns-2 : tie.Need-returns-2 Inv-loop μ-loop
 returns-2 c =
     let a = c .before .before .before .before .before .before .before .before .before .before .args in let l = c .before .loop in
@@ -138,22 +96,22 @@ put-moved-spec =
     (tie.spec
     Inv-loop
     μ-loop
-    add-end
-    sub-put-bytes
-    part-put-bytes-start
-    part-put-bytes-end
-    put-bytes-requires
+    (λ c. search needs)
+    (λ c. search needs)
+    (λ c. search needs)
+    (λ c. search needs)
+    (λ c κs. rw (length-take _ _) (omega arith))
     loop-holds
     offset-at-requires
     moved-field-requires
-    enum-told
-    same-length
-    returns
-    enum-known-moved
-    add-put-word
-    put-word-requires
-    add-i
-    loop-less
+    (λ c. search needs)
+    (λ c. absurd (not-over c))
+    (λ c. absurd (not-over c))
+    (λ c. search needs)
+    (λ c. omega (arith, room (c .before .before .before .before .before)))
+    (λ c κs. omega (arith, room (c .before .before .before .before .before)))
+    (λ c. omega arith)
+    (λ c. omega arith)
     loop-again
-    same-length-2
+    (λ c. c .before .loop .inv .1 ∙ c .before .before .before .before .put-bytes .kept .0)
     returns-2)

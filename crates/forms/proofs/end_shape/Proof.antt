@@ -9,12 +9,9 @@ returns : tie.Need-returns
 unfolding endShape
 returns c = rw (eq-eqb _ _ (c .if1 .taken))
 
-last-at-requires : tie.Need-last-at-requires
-last-at-requires c κs = search needs
-
 returns-2 : tie.Need-returns-2
 unfolding endShape
 returns-2 c = rw (ne-eqb _ _ (c .before .if1 .left)) (c .last-at .ensures)
 
 pub end-shape-spec : {M : Type 1} → statement M
-end-shape-spec = tie.close (tie.spec returns last-at-requires returns-2)
+end-shape-spec = tie.close (tie.spec returns (λ c κs. search needs) returns-2)

@@ -5,18 +5,6 @@ use borrow.Author.Needs.{needs}
 use Rattle.forms.proofs.last_at.Statement.{statement}
 use Rattle.forms.proofs.last_at.Tie as tie
 
-expression-form-requires : tie.Need-expression-form-requires
-expression-form-requires c κs = search needs
-
-enum-known-q : tie.Need-enum-known-q
-enum-known-q c = search needs
-
-enum-known-q-2 : tie.Need-enum-known-q-2
-enum-known-q-2 c = search needs
-
-ended-requires : tie.Need-ended-requires
-ended-requires c κs = search needs
-
 returns : tie.Need-returns
 unfolding lastAt
 returns c = rw (sym (c .before .before .before .expression-form .ensures), c .before .q .given .1)
@@ -29,9 +17,9 @@ pub last-at-spec : {M : Type 1} → statement M
 last-at-spec =
     tie.close
     (tie.spec
-    expression-form-requires
-    enum-known-q
-    enum-known-q-2
-    ended-requires
+    (λ c κs. search needs)
+    (λ c. search needs)
+    (λ c. search needs)
+    (λ c κs. search needs)
     returns
     returns-2)

@@ -8,23 +8,8 @@ use borrow.Author.Needs.{needs}
 use Rattle.forms.proofs.one_shape.Statement.{statement}
 use Rattle.forms.proofs.one_shape.Tie as tie
 
-address-at-requires : tie.Need-address-at-requires
-address-at-requires c κs = search needs
-
-enum-known-q : tie.Need-enum-known-q
-enum-known-q c = search needs
-
-enum-known-a : tie.Need-enum-known-a
-enum-known-a c = search needs
-
-byte-at-requires : tie.Need-byte-at-requires
-byte-at-requires c κs = search needs
-
 add-p : tie.Need-add-p
 add-p c = omega (arith, stands-inside 44 (c .before .before .before .before .before .before .before .args .o .now) (c .before .before .before .a .given .0 .1 .0) (omega arith) (is-byte (c .before .byte-at .ensures) (c .if1 .taken)))
-
-last-at-requires : tie.Need-last-at-requires
-last-at-requires c κs = search needs
 
 returns : tie.Need-returns
 unfolding oneShape
@@ -42,12 +27,12 @@ pub one-shape-spec : {M : Type 1} → statement M
 one-shape-spec =
     tie.close
     (tie.spec
-    address-at-requires
-    enum-known-q
-    enum-known-a
-    byte-at-requires
+    (λ c κs. search needs)
+    (λ c. search needs)
+    (λ c. search needs)
+    (λ c κs. search needs)
     add-p
-    last-at-requires
+    (λ c κs. search needs)
     returns
     returns-2
     returns-3)

@@ -5,18 +5,6 @@ use borrow.Author.Needs.{needs}
 use Rattle.forms.proofs.only_shape.Statement.{statement}
 use Rattle.forms.proofs.only_shape.Tie as tie
 
-address-at-requires : tie.Need-address-at-requires
-address-at-requires c κs = search needs
-
-enum-known-q : tie.Need-enum-known-q
-enum-known-q c = search needs
-
-enum-known-a : tie.Need-enum-known-a
-enum-known-a c = search needs
-
-ended-requires : tie.Need-ended-requires
-ended-requires c κs = search needs
-
 returns : tie.Need-returns
 unfolding onlyShape
 returns c = rw (sym (c .before .before .before .address-at .ensures), c .before .q .given .1)
@@ -28,4 +16,10 @@ returns-2 c = rw (sym (c .before .before .before .before .address-at .ensures), 
 pub only-shape-spec : {M : Type 1} → statement M
 only-shape-spec =
     tie.close
-    (tie.spec address-at-requires enum-known-q enum-known-a ended-requires returns returns-2)
+    (tie.spec
+    (λ c κs. search needs)
+    (λ c. search needs)
+    (λ c. search needs)
+    (λ c κs. search needs)
+    returns
+    returns-2)

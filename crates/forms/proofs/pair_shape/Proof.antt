@@ -8,23 +8,8 @@ use borrow.Author.Needs.{needs}
 use Rattle.forms.proofs.pair_shape.Statement.{statement}
 use Rattle.forms.proofs.pair_shape.Tie as tie
 
-expression-form-requires : tie.Need-expression-form-requires
-expression-form-requires c κs = search needs
-
-enum-known-q : tie.Need-enum-known-q
-enum-known-q c = search needs
-
-enum-known-q-2 : tie.Need-enum-known-q-2
-enum-known-q-2 c = search needs
-
-byte-at-requires : tie.Need-byte-at-requires
-byte-at-requires c κs = search needs
-
 add-p : tie.Need-add-p
 add-p c = omega (arith, stands-inside 44 (c .before .before .before .before .before .before .before .args .o .now) (c .before .before .before .q2 .given .0 .0) (omega arith) (is-byte (c .before .byte-at .ensures) (c .if1 .taken)))
-
-last-at-requires : tie.Need-last-at-requires
-last-at-requires c κs = search needs
 
 returns : tie.Need-returns
 unfolding pairShape
@@ -42,12 +27,12 @@ pub pair-shape-spec : {M : Type 1} → statement M
 pair-shape-spec =
     tie.close
     (tie.spec
-    expression-form-requires
-    enum-known-q
-    enum-known-q-2
-    byte-at-requires
+    (λ c κs. search needs)
+    (λ c. search needs)
+    (λ c. search needs)
+    (λ c κs. search needs)
     add-p
-    last-at-requires
+    (λ c κs. search needs)
     returns
     returns-2
     returns-3)

@@ -5,15 +5,6 @@ use borrow.Author.Needs.{needs}
 use Rattle.forms.proofs.reserve_shape.Statement.{statement}
 use Rattle.forms.proofs.reserve_shape.Tie as tie
 
-reserve-form-requires : tie.Need-reserve-form-requires
-reserve-form-requires c κs = search needs
-
-enum-known-q : tie.Need-enum-known-q
-enum-known-q c = search needs
-
-enum-known-d : tie.Need-enum-known-d
-enum-known-d c = search needs
-
 returns : tie.Need-returns
 unfolding reserveShape
 returns c = rw (sym (c .before .before .before .reserve-form .ensures), c .before .q .given .1)
@@ -24,4 +15,5 @@ returns-2 c = rw (sym (c .before .before .before .reserve-form .ensures), c .bef
 
 pub reserve-shape-spec : {M : Type 1} → statement M
 reserve-shape-spec =
-    tie.close (tie.spec reserve-form-requires enum-known-q enum-known-d returns returns-2)
+    tie.close
+    (tie.spec (λ c κs. search needs) (λ c. search needs) (λ c. search needs) returns returns-2)

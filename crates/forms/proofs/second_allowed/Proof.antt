@@ -3,47 +3,17 @@ use borrow.Author.Needs.{needs}
 use Rattle.forms.proofs.second_allowed.Statement.{statement}
 use Rattle.forms.proofs.second_allowed.Tie as tie
 
-enum-told : tie.Need-enum-told
-enum-told c = search needs
-
-enum-told-2 : tie.Need-enum-told-2
-enum-told-2 c = search needs
-
-unless-there-requires : tie.Need-unless-there-requires
-unless-there-requires c κs = search needs
-
-enum-told-3 : tie.Need-enum-told-3
-enum-told-3 c = search needs
-
-unless-there-requires-2 : tie.Need-unless-there-requires-2
-unless-there-requires-2 c κs = search needs
-
-enum-told-4 : tie.Need-enum-told-4
-enum-told-4 c = search needs
-
-returns : tie.Need-returns
-returns c = rw (c .enum-told .given .1)
-
-returns-2 : tie.Need-returns-2
-returns-2 c = rw (c .before .enum-told2 .given .1) (c .unless-there .ensures)
-
-returns-3 : tie.Need-returns-3
-returns-3 c = rw (c .before .enum-told3 .given .1) (c .unless-there2 .ensures)
-
-returns-4 : tie.Need-returns-4
-returns-4 c = rw (c .enum-told4 .given .1)
-
 pub second-allowed-spec : {M : Type 1} → statement M
 second-allowed-spec =
     tie.close
     (tie.spec
-    enum-told
-    enum-told-2
-    unless-there-requires
-    enum-told-3
-    unless-there-requires-2
-    enum-told-4
-    returns
-    returns-2
-    returns-3
-    returns-4)
+    (λ c. search needs)
+    (λ c. search needs)
+    (λ c κs. search needs)
+    (λ c. search needs)
+    (λ c κs. search needs)
+    (λ c. search needs)
+    (λ c. rw (c .enum-told .given .1))
+    (λ c. rw (c .before .enum-told2 .given .1) (c .unless-there .ensures))
+    (λ c. rw (c .before .enum-told3 .given .1) (c .unless-there2 .ensures))
+    (λ c. rw (c .enum-told4 .given .1)))

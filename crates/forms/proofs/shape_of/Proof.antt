@@ -6,14 +6,8 @@ use borrow.Author.Needs.{needs}
 use Rattle.forms.proofs.shape_of.Statement.{statement}
 use Rattle.forms.proofs.shape_of.Tie as tie
 
-traits-of-requires : tie.Need-traits-of-requires
-traits-of-requires c κs = search needs
-
-shape-by-requires : tie.Need-shape-by-requires
-shape-by-requires c κs = search needs
-
 returns : tie.Need-returns
 returns c = c .shape-by .ensures ∙ ap (λ t. shapeBy (t .pattern) (now (c .before .before .before .args .o))) (c .before .traits-of .ensures)
 
 pub shape-of-spec : {M : Type 1} → statement M
-shape-of-spec = tie.close (tie.spec traits-of-requires shape-by-requires returns)
+shape-of-spec = tie.close (tie.spec (λ c κs. search needs) (λ c κs. search needs) returns)

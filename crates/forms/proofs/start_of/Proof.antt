@@ -3,43 +3,16 @@ use borrow.Author.Needs.{needs}
 use Rattle.forms.proofs.start_of.Statement.{statement}
 use Rattle.forms.proofs.start_of.Tie as tie
 
-enum-known-t : tie.Need-enum-known-t
-enum-known-t c = search needs
-
-ended-requires : tie.Need-ended-requires
-ended-requires c κs = search needs
-
-enum-told : tie.Need-enum-told
-enum-told c = search needs
-
-enum-told-2 : tie.Need-enum-told-2
-enum-told-2 c = search needs
-
-enum-known-t-2 : tie.Need-enum-known-t-2
-enum-known-t-2 c = search needs
-
-returns : tie.Need-returns
-returns c = rw (c .before .before .t .given .1) (c .ended .ensures)
-
-returns-2 : tie.Need-returns-2
-returns-2 c = rw (c .enum-told .given .1)
-
-returns-3 : tie.Need-returns-3
-returns-3 c = rw (c .enum-told2 .given .1)
-
-returns-4 : tie.Need-returns-4
-returns-4 c = rw (c .before .t2 .given .1)
-
 pub start-of-spec : {M : Type 1} → statement M
 start-of-spec =
     tie.close
     (tie.spec
-    enum-known-t
-    ended-requires
-    enum-told
-    enum-told-2
-    enum-known-t-2
-    returns
-    returns-2
-    returns-3
-    returns-4)
+    (λ c. search needs)
+    (λ c κs. search needs)
+    (λ c. search needs)
+    (λ c. search needs)
+    (λ c. search needs)
+    (λ c. rw (c .before .before .t .given .1) (c .ended .ensures))
+    (λ c. rw (c .enum-told .given .1))
+    (λ c. rw (c .enum-told2 .given .1))
+    (λ c. rw (c .before .t2 .given .1)))

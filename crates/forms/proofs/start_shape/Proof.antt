@@ -10,15 +10,10 @@ returns : tie.Need-returns
 unfolding startShape
 returns c = rw (eq-eqb _ _ (c .if1 .taken))
 
-start-term-requires : tie.Need-start-term-requires
-start-term-requires c κs = search needs
-
-start-of-requires : tie.Need-start-of-requires
-start-of-requires c κs = search needs
-
 returns-2 : tie.Need-returns-2
 unfolding startShape
 returns-2 c = rw (ne-eqb _ _ (c .before .before .if1 .left), sym (c .before .start-term .ensures)) (c .start-of .ensures)
 
 pub start-shape-spec : {M : Type 1} → statement M
-start-shape-spec = tie.close (tie.spec returns start-term-requires start-of-requires returns-2)
+start-shape-spec =
+    tie.close (tie.spec returns (λ c κs. search needs) (λ c κs. search needs) returns-2)

@@ -5,25 +5,13 @@ use borrow.Author.Needs.{needs}
 use Rattle.forms.proofs.start_term.Statement.{statement}
 use Rattle.forms.proofs.start_term.Tie as tie
 
-byte-at-requires : tie.Need-byte-at-requires
-byte-at-requires c κs = search needs
-
-read-decimal-requires : tie.Need-read-decimal-requires
-read-decimal-requires c κs = search needs
-
 returns : tie.Need-returns
 unfolding startTerm
 returns c = rw (no-byte (c .before .before .byte-at .ensures) (c .before .if1 .taken)) (c .read-decimal .ensures)
 
-byte-at-requires-2 : tie.Need-byte-at-requires-2
-byte-at-requires-2 c κs = search needs
-
 returns-2 : tie.Need-returns-2
 unfolding startTerm
 returns-2 c = rw (is-byte (c .before .before .before .byte-at .ensures) (c .before .before .if1 .left), no-byte (c .before .byte-at2 .ensures) (c .if2 .taken))
-
-read-hex-requires : tie.Need-read-hex-requires
-read-hex-requires c κs = search needs
 
 returns-3 : tie.Need-returns-3
 unfolding startTerm
@@ -33,10 +21,10 @@ pub start-term-spec : {M : Type 1} → statement M
 start-term-spec =
     tie.close
     (tie.spec
-    byte-at-requires
-    read-decimal-requires
+    (λ c κs. search needs)
+    (λ c κs. search needs)
     returns
-    byte-at-requires-2
+    (λ c κs. search needs)
     returns-2
-    read-hex-requires
+    (λ c κs. search needs)
     returns-3)

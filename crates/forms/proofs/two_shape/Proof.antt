@@ -8,29 +8,8 @@ use borrow.Author.Needs.{needs}
 use Rattle.forms.proofs.two_shape.Statement.{statement}
 use Rattle.forms.proofs.two_shape.Tie as tie
 
-first-allowed-requires : tie.Need-first-allowed-requires
-first-allowed-requires c κs = search needs
-
-address-at-requires : tie.Need-address-at-requires
-address-at-requires c κs = search needs
-
-enum-known-q : tie.Need-enum-known-q
-enum-known-q c = search needs
-
-enum-known-a : tie.Need-enum-known-a
-enum-known-a c = search needs
-
-byte-at-requires : tie.Need-byte-at-requires
-byte-at-requires c κs = search needs
-
 add-two-of : tie.Need-add-two-of
 add-two-of c = omega (arith, stands-inside 44 (c .before .before .before .before .before .before .before .before .args .o .now) (c .before .before .before .a .given .0 .1 .0) (omega arith) (is-byte (c .before .byte-at .ensures) (c .if1 .taken)))
-
-second-allowed-requires : tie.Need-second-allowed-requires
-second-allowed-requires c κs = search needs
-
-two-of-requires : tie.Need-two-of-requires
-two-of-requires c κs = search needs
 
 returns : tie.Need-returns
 unfolding twoShape
@@ -48,14 +27,14 @@ pub two-shape-spec : {M : Type 1} → statement M
 two-shape-spec =
     tie.close
     (tie.spec
-    first-allowed-requires
-    address-at-requires
-    enum-known-q
-    enum-known-a
-    byte-at-requires
+    (λ c κs. search needs)
+    (λ c κs. search needs)
+    (λ c. search needs)
+    (λ c. search needs)
+    (λ c κs. search needs)
     add-two-of
-    second-allowed-requires
-    two-of-requires
+    (λ c κs. search needs)
+    (λ c κs. search needs)
     returns
     returns-2
     returns-3)

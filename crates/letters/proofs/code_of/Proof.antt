@@ -6,15 +6,6 @@ use borrow.Author.Needs.{needs}
 use Rattle.letters.proofs.code_of.Statement.{statement}
 use Rattle.letters.proofs.code_of.Tie as tie
 
-place-of-requires : tie.Need-place-of-requires
-place-of-requires c κs = search needs
-
-mul-p : tie.Need-mul-p
-mul-p c = search needs
-
-array-copy-out-p : tie.Need-array-copy-out-p
-array-copy-out-p c = search needs
-
 returns : tie.Need-returns
 unfolding table
 returns c = code-there (c .before .before .before .before .args .b) (omega arith) (c .before .before .before .place-of .result) (c .before .before .before .place-of .ensures .0) (c .if1 .taken)
@@ -24,4 +15,6 @@ unfolding table
 returns-2 c = code-none (c .before .before .before .before .args .b) (omega arith) (c .before .before .before .place-of .result) (c .before .before .before .place-of .ensures .0) (c .if1 .left)
 
 pub code-of-spec : {M : Type 1} → statement M
-code-of-spec = tie.close (tie.spec place-of-requires mul-p array-copy-out-p returns returns-2)
+code-of-spec =
+    tie.close
+    (tie.spec (λ c κs. search needs) (λ c. search needs) (λ c. search needs) returns returns-2)

@@ -7,9 +7,6 @@ use borrow.Author.Needs.{needs}
 use Rattle.letters.proofs.digit_of.Statement.{statement}
 use Rattle.letters.proofs.digit_of.Tie as tie
 
-add-result : tie.Need-add-result
-add-result c = search needs
-
 returns : tie.Need-returns
 unfolding digitOf isFromTo
 returns c = (simp (le-leb _ _ (c .before .if1 .left), le-leb (c .before .before .args .b) 57 (omega arith)), omega arith)
@@ -31,4 +28,5 @@ unfolding digitOf isFromTo
 returns-5 c = (simp (le-leb 48 (c .before .before .before .before .args .b) (omega arith), lt-leb (c .before .before .before .before .args .b) 57 (omega arith), le-leb 65 (c .before .before .before .before .args .b) (omega arith), lt-leb (c .before .before .before .before .args .b) 70 (omega arith)), omega arith)
 
 pub digit-of-spec : {M : Type 1} → statement M
-digit-of-spec = tie.close (tie.spec add-result returns returns-2 returns-3 returns-4 returns-5)
+digit-of-spec =
+    tie.close (tie.spec (λ c. search needs) returns returns-2 returns-3 returns-4 returns-5)

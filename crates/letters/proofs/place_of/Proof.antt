@@ -7,12 +7,6 @@ use borrow.Author.Needs.{needs}
 use Rattle.letters.proofs.place_of.Statement.{statement}
 use Rattle.letters.proofs.place_of.Tie as tie
 
-wide-requires : tie.Need-wide-requires
-wide-requires c κs = search needs
-
-sub-result : tie.Need-sub-result
-sub-result c = search needs
-
 returns : tie.Need-returns
 unfolding placeOf
 returns c = (ap placeOf (sym (c .match .keys1)), omega arith)
@@ -35,4 +29,12 @@ returns-5 c = (simp (le-ltb _ _ (c .before .if1 .left), le-ltb _ _ (c .if2 .left
 
 pub place-of-spec : {M : Type 1} → statement M
 place-of-spec =
-    tie.close (tie.spec wide-requires sub-result returns returns-2 returns-3 returns-4 returns-5)
+    tie.close
+    (tie.spec
+    (λ c κs. search needs)
+    (λ c. search needs)
+    returns
+    returns-2
+    returns-3
+    returns-4
+    returns-5)

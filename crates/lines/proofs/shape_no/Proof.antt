@@ -10,12 +10,6 @@ use borrow.Author.Needs.{needs}
 use Rattle.lines.proofs.shape_no.Statement.{statement}
 use Rattle.lines.proofs.shape_no.Tie as tie
 
-enum-told : tie.Need-enum-told
-enum-told c = search needs
-
-returns : tie.Need-returns
-returns c = search needs
-
 others : (x : Shape) → OneOf (1 ∷ 2 ∷ 3 ∷ 4 ∷ 5 ∷ 6 ∷ 7 ∷ 8 ∷ 9 ∷ []) (tagOf the-type x) → 0 ≡ shapeNo x
 others (Shape.Fails q) k = absurd (miss (1 ∷ 2 ∷ 3 ∷ 4 ∷ 5 ∷ 6 ∷ 7 ∷ 8 ∷ 9 ∷ []) 0 tt k)
 others Shape.Nothing k = refl
@@ -28,8 +22,10 @@ others (Shape.AddressAndCode a p) k = refl
 others (Shape.LoneAddress a) k = refl
 others (Shape.Data d) k = refl
 
-returns-2 : tie.Need-returns-2
-returns-2 c = others (c .before .args .x) (c .match .keys2)
-
 pub shape-no-spec : {M : Type 1} → statement M
-shape-no-spec = tie.close (tie.spec enum-told returns returns-2)
+shape-no-spec =
+    tie.close
+    (tie.spec
+    (λ c. search needs)
+    (λ c. search needs)
+    (λ c. others (c .before .args .x) (c .match .keys2)))

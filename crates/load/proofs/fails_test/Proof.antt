@@ -8,18 +8,6 @@ use borrow.Author.Needs.{needs}
 use Rattle.load.proofs.fails_test.Statement.{statement}
 use Rattle.load.proofs.fails_test.Tie as tie
 
-enum-known-test : tie.Need-enum-known-test
-enum-known-test c = search needs
-
-is-outside-requires : tie.Need-is-outside-requires
-is-outside-requires c κs = search needs
-
-enum-told : tie.Need-enum-told
-enum-told c = search needs
-
-over-field-requires : tie.Need-over-field-requires
-over-field-requires c κs = search needs
-
 returns : tie.Need-returns
 returns c =
     let a = c .before .before .before .before .before .args in
@@ -34,4 +22,10 @@ returns-2 c =
 pub fails-test-spec : {M : Type 1} → statement M
 fails-test-spec =
     tie.close
-    (tie.spec enum-known-test is-outside-requires enum-told over-field-requires returns returns-2)
+    (tie.spec
+    (λ c. search needs)
+    (λ c κs. search needs)
+    (λ c. search needs)
+    (λ c κs. search needs)
+    returns
+    returns-2)

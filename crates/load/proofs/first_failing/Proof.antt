@@ -18,32 +18,17 @@ Inv-loop test book d cursor₀ cursor = Left book (cursor .at) (cursor .card) (�
 abbrev μ-loop : tie.MeasureT-loop
 μ-loop test book d cursor₀ cursor = length book - cursor .at
 
-first-requires : tie.Need-first-requires Inv-loop μ-loop
-first-requires c κs = search needs
-
 loop-holds : tie.Need-loop-holds Inv-loop μ-loop
 loop-holds c = let (e, q) = c .before .before .pre in rw (c .first .ensures .0, c .first .ensures .1) (start _ e q _ refl)
-
-next-requires : tie.Need-next-requires Inv-loop μ-loop
-next-requires c κs = search needs
-
-enum-known-p : tie.Need-enum-known-p Inv-loop μ-loop
-enum-known-p c = search needs
 
 -- the record that the reader gave
 read : (c : tie.After-p Inv-loop μ-loop) → Step.Record (c .p .given .0 .0) (c .p .given .0 .1 .0) ≡ stepAt (c .before .before .before .before .before .before .args .book .now) (c .before .before .before .loop .cursor .at) (c .before .before .before .loop .cursor .card)
 read c = sym (c .p .given .1) ∙ c .before .before .next .ensures
 
-fails-test-requires : tie.Need-fails-test-requires Inv-loop μ-loop
-fails-test-requires c κs = gave _ _ _ _ _ (read (c .before)) .sound
-
 returns : tie.Need-returns Inv-loop μ-loop
 returns c =
     let a = c .before .before .before .before .before .before .before .before .before .args in let l = c .before .before .before .before .before .before .loop in let q = read (c .before .before .before) in let p = c .before .before .before .p .given .0 .0 in let (rest, holds) = first _ _ _ _ (l .inv) _ _ q in
     sym (holds ∙ first-hit _ (recordThere (a .book .now) p) rest (sym (c .before .fails-test .ensures) ∙ c .if1 .taken))
-
-loop-less : tie.Need-loop-less Inv-loop μ-loop
-loop-less c = let g = gave _ _ _ _ _ (read (c .before .before .before)) in omega (arith, g .on, g .within)
 
 loop-again : tie.Need-loop-again Inv-loop μ-loop
 loop-again c =
@@ -59,12 +44,12 @@ first-failing-spec =
     (tie.spec
     Inv-loop
     μ-loop
-    first-requires
+    (λ c κs. search needs)
     loop-holds
-    next-requires
-    enum-known-p
-    fails-test-requires
+    (λ c κs. search needs)
+    (λ c. search needs)
+    (λ c κs. gave _ _ _ _ _ (read (c .before)) .sound)
     returns
-    loop-less
+    (λ c. let g = gave _ _ _ _ _ (read (c .before .before .before)) in omega (arith, g .on, g .within))
     loop-again
     returns-2)

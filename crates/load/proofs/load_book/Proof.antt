@@ -5,23 +5,8 @@ use Rattle.load.proofs.Laws.{is-broken, is-whole, by-outcome}
 use Rattle.load.proofs.load_book.Statement.{statement}
 use Rattle.load.proofs.load_book.Tie as tie
 
-read-layout-requires : tie.Need-read-layout-requires
-read-layout-requires c κs = search needs
-
-enum-told : tie.Need-enum-told
-enum-told c = search needs
-
-enum-known-entry : tie.Need-enum-known-entry
-enum-known-entry c = search needs
-
-load-whole-requires : tie.Need-load-whole-requires
-load-whole-requires c κs = sym (c .before .before .entry .given .1) ∙ c .before .before .before .before .read-layout .ensures
-
 returns : tie.Need-returns
 returns c = by-outcome _ _ _ _ (is-broken _ _ _ (sym (c .enum-told .given .1) ∙ c .before .before .read-layout .ensures)) refl refl
-
-same-length : tie.Need-same-length
-same-length c = search needs
 
 returns-2 : tie.Need-returns-2
 returns-2 c = by-outcome _ _ _ _ (is-whole _ _ _ _ (sym (c .before .before .before .before .before .entry .given .1) ∙ c .before .before .before .before .before .before .before .read-layout .ensures)) (c .before .before .load-whole .ensures .0) (c .before .before .load-whole .ensures .1)
@@ -30,10 +15,10 @@ pub load-book-spec : {M : Type 1} → statement M
 load-book-spec =
     tie.close
     (tie.spec
-    read-layout-requires
-    enum-told
-    enum-known-entry
-    load-whole-requires
+    (λ c κs. search needs)
+    (λ c. search needs)
+    (λ c. search needs)
+    (λ c κs. sym (c .before .before .entry .given .1) ∙ c .before .before .before .before .read-layout .ensures)
     returns
-    same-length
+    (λ c. search needs)
     returns-2)

@@ -11,15 +11,6 @@ use Rattle.load.proofs.Laws.{is-outside, is-over, is-admitted, by-outco
 use Rattle.load.proofs.load_whole.Statement.{statement}
 use Rattle.load.proofs.load_whole.Tie as tie
 
-room-of-requires : tie.Need-room-of-requires
-room-of-requires c κs = search needs
-
-first-failing-requires : tie.Need-first-failing-requires
-first-failing-requires c κs = (c .before .before .before .before .args .entry, c .before .before .before .before .pre)
-
-same-length : tie.Need-same-length
-same-length c = search needs
-
 outside-is : (c : tie.After-first-failing) → c .first-failing .result ≡ firstCard (outside (c .before .before .before .before .before .args .d) (roomIn (c .before .before .before .before .before .args .storage .now))) (recordsIn (c .before .before .before .before .before .args .book .now))
 outside-is c = let a = c .before .before .before .before .before .args in c .first-failing .ensures ∙ ap (λ room. firstCard (failsTest (Test.Outside room) (a .d)) (recordsIn (a .book .now))) (c .before .room-of .ensures)
 
@@ -28,9 +19,6 @@ returns c = let a = c .before .before .before .before .before .before .args in b
 
 first-failing-requires-2 : tie.Need-first-failing-requires-2
 first-failing-requires-2 c κs = (c .before .before .before .before .before .before .args .entry, c .before .before .before .before .before .before .pre)
-
-same-length-2 : tie.Need-same-length-2
-same-length-2 c = search needs
 
 -- neither 51 nor 52 for a field
 inside : (c : tie.Else1) → firstCard (outside (c .before .before .before .before .before .before .args .d) (roomIn (c .before .before .before .before .before .before .args .storage .now))) (recordsIn (c .before .before .before .before .before .before .args .book .now)) ≡ 0
@@ -45,35 +33,11 @@ admitted c = let a = c .before .before .before .before .before .before .before .
 returns-2 : tie.Need-returns-2
 returns-2 c = let a = c .before .before .before .before .before .before .before .before .args in by-outcome _ _ _ _ (is-over (a .entry) (a .d) (recordsIn (a .book .now)) (a .storage .now) (inside (c .before .before)) (λ z. c .if2 .taken (c .before .first-failing2 .ensures ∙ z))) (ap Over (c .before .first-failing2 .ensures)) refl
 
-enum-told : tie.Need-enum-told
-enum-told c = search needs
-
 store-all-requires : tie.Need-store-all-requires
 store-all-requires c κs = ((c .before .before .before .before .before .before .before .before .before .before .before .args .entry, c .before .before .before .before .before .before .before .before .before .before .before .pre), (inside (c .before .before .before .before .before), under (c .before .before .before)))
 
-cast-t18 : tie.Need-cast-t18
-cast-t18 c = search needs
-
-enum-known-entry : tie.Need-enum-known-entry
-enum-known-entry c = search needs
-
-plus-requires : tie.Need-plus-requires
-plus-requires c κs = search needs
-
-enum-told-2 : tie.Need-enum-told-2
-enum-told-2 c = search needs
-
-enum-known-moved : tie.Need-enum-known-moved
-enum-known-moved c = search needs
-
 store-all-requires-2 : tie.Need-store-all-requires-2
 store-all-requires-2 c κs = ((c .before .before .before .before .before .before .before .before .before .before .before .before .before .before .before .before .args .entry, c .before .before .before .before .before .before .before .before .before .before .before .before .before .before .before .before .pre), (inside (c .before .before .before .before .before .before .before .before .before .before), under (c .before .before .before .before .before .before .before .before)))
-
-cast-t25 : tie.Need-cast-t25
-cast-t25 c = search needs
-
-same-length-3 : tie.Need-same-length-3
-same-length-3 c = search needs
 
 returns-3 : tie.Need-returns-3
 returns-3 c =
@@ -81,17 +45,11 @@ returns-3 c =
     by-outcome _ _ _ _ (admitted (c .before .before .before .before .before .before) ∙ ap (λ e. judgedEntry e (a .d) (recordsIn (a .book .now)) (a .storage .now)) (c .before .before .before .before .enum-told .given .1))
     (ap (λ n. Stored n (Absent)) (c .before .before .store-all .ensures .0 .0)) (c .before .before .store-all .ensures .1)
 
-same-length-4 : tie.Need-same-length-4
-same-length-4 c = search needs
-
 returns-4 : tie.Need-returns-4
 returns-4 c =
     let a = c .before .before .before .before .before .before .before .before .before .before .before .before .before .before .args in
     by-outcome _ _ _ _ (admitted (c .before .before .before .before .before .before) ∙ ap (λ e. judgedEntry e (a .d) (recordsIn (a .book .now)) (a .storage .now)) (c .before .before .before .before .entry .given .1)
     ∙ ap (λ v. judgedMoved v (a .d) (recordsIn (a .book .now)) (a .storage .now)) (sym (c .before .before .plus .ensures) ∙ c .enum-told2 .given .1)) refl refl
-
-same-length-5 : tie.Need-same-length-5
-same-length-5 c = search needs
 
 returns-5 : tie.Need-returns-5
 returns-5 c =
@@ -104,25 +62,25 @@ pub load-whole-spec : {M : Type 1} → statement M
 load-whole-spec =
     tie.close
     (tie.spec
-    room-of-requires
-    first-failing-requires
-    same-length
+    (λ c κs. search needs)
+    (λ c κs. (c .before .before .before .before .args .entry, c .before .before .before .before .pre))
+    (λ c. search needs)
     returns
     first-failing-requires-2
-    same-length-2
+    (λ c. search needs)
     returns-2
-    enum-told
+    (λ c. search needs)
     store-all-requires
-    cast-t18
-    enum-known-entry
-    plus-requires
-    enum-told-2
-    enum-known-moved
+    (λ c. search needs)
+    (λ c. search needs)
+    (λ c κs. search needs)
+    (λ c. search needs)
+    (λ c. search needs)
     store-all-requires-2
-    cast-t25
-    same-length-3
+    (λ c. search needs)
+    (λ c. search needs)
     returns-3
-    same-length-4
+    (λ c. search needs)
     returns-4
-    same-length-5
+    (λ c. search needs)
     returns-5)

@@ -26,22 +26,10 @@ Inv-loop book d m₀ count₀ cursor₀ m count cursor =
 abbrev μ-loop : tie.MeasureT-loop
 μ-loop book d m₀ count₀ cursor₀ m count cursor = length book - cursor .at
 
-first-requires : tie.Need-first-requires Inv-loop μ-loop
-first-requires c κs = search needs
-
 loop-holds : tie.Need-loop-holds Inv-loop μ-loop
 loop-holds c = let (e, q) = c .before .before .before .pre .0 in
     rw (c .first .ensures .0, c .first .ensures .1)
     (refl, omega arith, omega arith, start _ e q _ (record { storage = refl; bytes = omega arith; inside = c .before .before .before .pre .1 .0; under = c .before .before .before .pre .1 .1 }))
-
-next-requires : tie.Need-next-requires Inv-loop μ-loop
-next-requires c κs = search needs
-
-enum-known-p : tie.Need-enum-known-p Inv-loop μ-loop
-enum-known-p c = search needs
-
-plus-requires : tie.Need-plus-requires Inv-loop μ-loop
-plus-requires c κs = search needs
 
 -- the record that the reader gave
 read : (c : tie.After-p Inv-loop μ-loop) → Step.Record (c .p .given .0 .0) (c .p .given .0 .1 .0) ≡ stepAt (c .before .before .before .before .before .before .before .args .book .now) (c .before .before .before .loop .cursor .at) (c .before .before .before .loop .cursor .card)
@@ -58,23 +46,11 @@ fits c =
     let (low, ends) = inside-is (a .d) (roomIn (a .m .now)) r (none-fails (outside (a .d) (roomIn (a .m .now))) r rest (g .card .0) (still .inside) .0) in
     (low, omega arith, none-fails (overField (a .d)) r rest (g .card .0) (still .under) .0)
 
-enum-told : tie.Need-enum-told Inv-loop μ-loop
-enum-told c = search needs
-
-same-length : tie.Need-same-length Inv-loop μ-loop
-same-length c = c .before .before .before .before .before .before .before .loop .inv .0
-
 returns : tie.Need-returns Inv-loop μ-loop
 returns c =
     let low = fits (c .before .before .before .before) .0 in
     let over = moved-over _ _ (sym (c .enum-told .given .1) ∙ c .before .before .plus .ensures) in
     absurd (omega arith)
-
-enum-known-address : tie.Need-enum-known-address Inv-loop μ-loop
-enum-known-address c = search needs
-
-wide16-requires : tie.Need-wide16-requires Inv-loop μ-loop
-wide16-requires c κs = search needs
 
 -- where the text goes
 place-is : (c : tie.After-wide16 Inv-loop μ-loop) → c .wide16 .result ≡ c .before .before .before .before .before .before .before .p .given .0 .0 .address .0 + c .before .before .before .before .before .before .before .before .before .before .before .before .before .before .args .d .0
@@ -86,7 +62,7 @@ put-moved-requires c κs =
     (gave _ _ _ _ _ (read (c .before .before .before .before .before .before .before)) .sound, (low .2, omega (arith, low .1)))
 
 add-count : tie.Need-add-count Inv-loop μ-loop
-add-count c = let short = gave _ _ _ _ _ (read (c .before .before .before .before .before .before .before .before .before .before .before)) .sound .short in let l = c .before .before .before .before .before .before .before .before .before .before .before .before .before .before .loop .inv in omega (arith, l .1, l .2)
+add-count c = let g = gave _ _ _ _ _ (read (c .before .before .before .before .before .before .before .before .before .before .before)) .sound in let short = g .short in let few = g .few in let l = c .before .before .before .before .before .before .before .before .before .before .before .before .before .before .loop .inv in omega (arith, l .1, l .2)
 
 loop-less : tie.Need-loop-less Inv-loop μ-loop
 loop-less c = let g = gave _ _ _ _ _ (read (c .before .before .before .before .before .before .before .before .before .before .before)) in omega (arith, g .on, g .within)
@@ -110,9 +86,6 @@ loop-again c =
       onward _ _ _ _ (l .inv .3) _ _ _ q (λ rest still. still-first (a .d) _ _ _ (l .m) _ (l .count) (p .size) (recordThere (a .book .now) p) rest still low n is),
     )
 
-same-length-2 : tie.Need-same-length-2 Inv-loop μ-loop
-same-length-2 c = c .before .before .loop .inv .0
-
 returns-2 : tie.Need-returns-2 Inv-loop μ-loop
 returns-2 c =
     let l = c .before .before .loop in
@@ -127,19 +100,19 @@ store-all-spec =
     (tie.spec
     Inv-loop
     μ-loop
-    first-requires
+    (λ c κs. search needs)
     loop-holds
-    next-requires
-    enum-known-p
-    plus-requires
-    enum-told
-    same-length
+    (λ c κs. search needs)
+    (λ c. search needs)
+    (λ c κs. search needs)
+    (λ c. search needs)
+    (λ c. c .before .before .before .before .before .before .before .loop .inv .0)
     returns
-    enum-known-address
-    wide16-requires
+    (λ c. search needs)
+    (λ c κs. search needs)
     put-moved-requires
     add-count
     loop-less
     loop-again
-    same-length-2
+    (λ c. c .before .before .loop .inv .0)
     returns-2)

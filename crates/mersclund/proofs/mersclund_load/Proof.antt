@@ -6,18 +6,6 @@ use borrow.Author.Needs.{needs}
 use Rattle.mersclund.proofs.mersclund_load.Statement.{statement}
 use Rattle.mersclund.proofs.mersclund_load.Tie as tie
 
-by-requires : tie.Need-by-requires
-by-requires c κs = search needs
-
-load-book-requires : tie.Need-load-book-requires
-load-book-requires c κs = search needs
-
-pack-load-requires : tie.Need-pack-load-requires
-pack-load-requires c κs = search needs
-
-same-length : tie.Need-same-length
-same-length c = search needs
-
 returns : tie.Need-returns
 returns c =
     let a = c .before .before .before .before .before .before .before .before .args in
@@ -27,4 +15,10 @@ returns c =
 
 pub mersclund-load-spec : {M : Type 1} → statement M
 mersclund-load-spec =
-    tie.close (tie.spec by-requires load-book-requires pack-load-requires same-length returns)
+    tie.close
+    (tie.spec
+    (λ c κs. search needs)
+    (λ c κs. search needs)
+    (λ c κs. search needs)
+    (λ c. search needs)
+    returns)

@@ -14,23 +14,8 @@ Inv-loop t₀ n i₀ t i = (i ≤ n) × (length t ≡ length t₀) × (t ≡ zer
 abbrev μ-loop : tie.MeasureT-loop
 μ-loop t₀ n i₀ t i = n - i
 
-loop-holds : tie.Need-loop-holds Inv-loop μ-loop
-loop-holds c = (omega arith, omega arith, zeroed-none _)
-
-slice-write-t : tie.Need-slice-write-t Inv-loop μ-loop
-slice-write-t c = omega arith
-
-add-i : tie.Need-add-i Inv-loop μ-loop
-add-i c = omega arith
-
-loop-less : tie.Need-loop-less Inv-loop μ-loop
-loop-less c = omega arith
-
 loop-again : tie.Need-loop-again Inv-loop μ-loop
 loop-again c = let l = c .before .loop in (omega arith, simp length-set (l .inv .1), ap (λ s. set s (l .i) 0) (l .inv .2) ∙ zeroed-more (l .i) (c .before .before .args .t .now) (omega arith))
-
-same-length : tie.Need-same-length Inv-loop μ-loop
-same-length c = c .before .loop .inv .1
 
 returns : tie.Need-returns Inv-loop μ-loop
 returns c = let l = c .before .loop in let e : l .i ≡ c .before .before .args .n = omega arith in l .inv .2 ∙ ap (λ k. zeroed k (c .before .before .args .t .now)) e
@@ -41,10 +26,10 @@ clear-spec =
     (tie.spec
     Inv-loop
     μ-loop
-    loop-holds
-    slice-write-t
-    add-i
-    loop-less
+    (λ c. (omega arith, omega arith, zeroed-none _))
+    (λ c. omega arith)
+    (λ c. omega arith)
+    (λ c. omega arith)
     loop-again
-    same-length
+    (λ c. c .before .loop .inv .1)
     returns)

@@ -9,24 +9,6 @@ use borrow.Author.Needs.{needs}
 use Rattle.names.proofs.define.Statement.{statement}
 use Rattle.names.proofs.define.Tie as tie
 
-place-requires : tie.Need-place-requires
-place-requires c κs = search needs
-
-mul-at : tie.Need-mul-at
-mul-at c = search needs
-
-mul-shift-up : tie.Need-mul-shift-up
-mul-shift-up c = search needs
-
-shift-up-requires : tie.Need-shift-up-requires
-shift-up-requires c κs = search needs
-
-put-name-requires : tie.Need-put-name-requires
-put-name-requires c κs = search needs
-
-same-length : tie.Need-same-length
-same-length c = search needs
-
 returns : tie.Need-returns
 unfolding put
 returns c = let a = c .before .before .before .before .before .before .before .before .before .before .before .args in let p = c .before .before .before .before .before .before .before .before .place in let s = c .before .before .before .before .before .before .shift-up in let w = c .before .before .put-name in
@@ -37,10 +19,10 @@ pub define-spec : {M : Type 1} → statement M
 define-spec =
     tie.close
     (tie.spec
-    place-requires
-    mul-at
-    mul-shift-up
-    shift-up-requires
-    put-name-requires
-    same-length
+    (λ c κs. search needs)
+    (λ c. search needs)
+    (λ c. search needs)
+    (λ c κs. search needs)
+    (λ c κs. search needs)
+    (λ c. search needs)
     returns)

@@ -7,18 +7,6 @@ use borrow.Author.Needs.{needs}
 use Rattle.names.proofs.look_up.Statement.{statement}
 use Rattle.names.proofs.look_up.Tie as tie
 
-place-requires : tie.Need-place-requires
-place-requires c κs = search needs
-
-mul-at : tie.Need-mul-at
-mul-at c = search needs
-
-number-at-requires : tie.Need-number-at-requires
-number-at-requires c κs = search needs
-
-meaning-at-requires : tie.Need-meaning-at-requires
-meaning-at-requires c κs = search needs
-
 returns : tie.Need-returns
 returns c = let a = c .before .before .before .before .before .before .args in c .meaning-at .ensures ∙ sym (place-met (a .count) (a .t .now) (a .number) (c .before .before .before .before .place .result) (c .before .before .before .before .place .ensures .0) (c .before .before .before .if1 .taken) (sym (c .before .before .number-at .ensures) ∙ c .before .if2 .taken))
 
@@ -32,10 +20,10 @@ pub look-up-spec : {M : Type 1} → statement M
 look-up-spec =
     tie.close
     (tie.spec
-    place-requires
-    mul-at
-    number-at-requires
-    meaning-at-requires
+    (λ c κs. search needs)
+    (λ c. search needs)
+    (λ c κs. search needs)
+    (λ c κs. search needs)
     returns
     returns-2
     returns-3)

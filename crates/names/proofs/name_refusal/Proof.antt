@@ -6,15 +6,6 @@ use borrow.Author.Needs.{needs}
 use Rattle.names.proofs.name_refusal.Statement.{statement}
 use Rattle.names.proofs.name_refusal.Tie as tie
 
-look-up-requires : tie.Need-look-up-requires
-look-up-requires c κs = search needs
-
-enum-told : tie.Need-enum-told
-enum-told c = search needs
-
-enum-told-2 : tie.Need-enum-told-2
-enum-told-2 c = search needs
-
 returns : tie.Need-returns
 unfolding nameRefusal
 returns c = rw (← c .before .before .look-up .ensures, c .enum-told .given .1)
@@ -29,4 +20,11 @@ returns-3 c = let a = c .before .before .before .before .before .args in rw (←
 
 pub name-refusal-spec : {M : Type 1} → statement M
 name-refusal-spec =
-    tie.close (tie.spec look-up-requires enum-told enum-told-2 returns returns-2 returns-3)
+    tie.close
+    (tie.spec
+    (λ c κs. search needs)
+    (λ c. search needs)
+    (λ c. search needs)
+    returns
+    returns-2
+    returns-3)

@@ -13,39 +13,12 @@ Inv-loop t count number low₀ high₀ low high = (high ≤ count) × (low ≤ b
 abbrev μ-loop : tie.MeasureT-loop
 μ-loop t count number low₀ high₀ low high = high - low
 
-loop-holds : tie.Need-loop-holds Inv-loop μ-loop
-loop-holds c = let a = c .before .args in (omega arith, omega arith, place-le (a .count) (a .t .now) (a .number))
-
-sub-middle : tie.Need-sub-middle Inv-loop μ-loop
-sub-middle c = omega arith
-
-add-middle : tie.Need-add-middle Inv-loop μ-loop
-add-middle c = omega arith
-
-mul-number-at : tie.Need-mul-number-at Inv-loop μ-loop
-mul-number-at c = omega arith
-
-number-at-requires : tie.Need-number-at-requires Inv-loop μ-loop
-number-at-requires c κs = omega arith
-
-add-low : tie.Need-add-low Inv-loop μ-loop
-add-low c = omega arith
-
-loop-less : tie.Need-loop-less Inv-loop μ-loop
-loop-less c = omega arith
-
 loop-again : tie.Need-loop-again Inv-loop μ-loop
 loop-again c = let l = c .before .before .before .loop in let a = c .before .before .before .before .before .args in let m = l .low + (l .high - l .low) / 2 in
     let u = place-up (a .count) (a .t .now) (a .number) m (c .before .before .before .before .before .pre .1) (omega arith) (rw (← c .before .number-at .ensures) (c .if1 .taken)) in (l .inv .0, omega arith, l .inv .2)
 
-loop-less-2 : tie.Need-loop-less-2 Inv-loop μ-loop
-loop-less-2 c = omega arith
-
 loop-again-2 : tie.Need-loop-again-2 Inv-loop μ-loop
 loop-again-2 c = let l = c .before .before .before .loop in let a = c .before .before .before .before .before .args in (omega arith, l .inv .1, place-down (a .count) (a .t .now) (a .number) _ (omega arith) (rw (← c .before .number-at .ensures) (c .if1 .left)))
-
-returns : tie.Need-returns Inv-loop μ-loop
-returns c = omega arith
 
 pub place-spec : {M : Type 1} → statement M
 place-spec =
@@ -53,14 +26,14 @@ place-spec =
     (tie.spec
     Inv-loop
     μ-loop
-    loop-holds
-    sub-middle
-    add-middle
-    mul-number-at
-    number-at-requires
-    add-low
-    loop-less
+    (λ c. let a = c .before .args in (omega arith, omega arith, place-le (a .count) (a .t .now) (a .number)))
+    (λ c. omega arith)
+    (λ c. omega arith)
+    (λ c. omega arith)
+    (λ c κs. omega arith)
+    (λ c. omega arith)
+    (λ c. omega arith)
     loop-again
-    loop-less-2
+    (λ c. omega arith)
     loop-again-2
-    returns)
+    (λ c. omega arith))

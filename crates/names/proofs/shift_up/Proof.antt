@@ -14,29 +14,8 @@ Inv-loop t₀ from to at₀ t at = (from ≤ at) × (at ≤ to) × (length t ≡
 abbrev μ-loop : tie.MeasureT-loop
 μ-loop t₀ from to at₀ t at = at
 
-loop-holds : tie.Need-loop-holds Inv-loop μ-loop
-loop-holds c = (omega arith, omega arith, omega arith, shift-none _ _)
-
-sub-at : tie.Need-sub-at Inv-loop μ-loop
-sub-at c = omega arith
-
-slice-read-t : tie.Need-slice-read-t Inv-loop μ-loop
-slice-read-t c = omega arith
-
-add-t : tie.Need-add-t Inv-loop μ-loop
-add-t c = omega arith
-
-slice-write-t : tie.Need-slice-write-t Inv-loop μ-loop
-slice-write-t c = omega arith
-
-loop-less : tie.Need-loop-less Inv-loop μ-loop
-loop-less c = omega arith
-
 loop-again : tie.Need-loop-again Inv-loop μ-loop
 loop-again c = let l = c .before .before .loop in let a = c .before .before .before .args in (omega arith, omega arith, simp length-set (l .inv .2), ap (λ s. set s (l .at - 1 + 16) (getD s (l .at - 1) 0)) (l .inv .3) ∙ shift-turn (a .t .now) (l .at) (a .to) (omega arith) (omega arith) (omega arith))
-
-same-length : tie.Need-same-length Inv-loop μ-loop
-same-length c = c .before .loop .inv .2
 
 returns : tie.Need-returns Inv-loop μ-loop
 returns c = let l = c .before .loop in let a = c .before .before .args in let e : l .at ≡ a .from = omega arith in l .inv .3 ∙ ap (λ k. shifted k (a .to) (a .t .now)) e
@@ -47,12 +26,12 @@ shift-up-spec =
     (tie.spec
     Inv-loop
     μ-loop
-    loop-holds
-    sub-at
-    slice-read-t
-    add-t
-    slice-write-t
-    loop-less
+    (λ c. (omega arith, omega arith, omega arith, shift-none _ _))
+    (λ c. omega arith)
+    (λ c. omega arith)
+    (λ c. omega arith)
+    (λ c. omega arith)
+    (λ c. omega arith)
     loop-again
-    same-length
+    (λ c. c .before .loop .inv .2)
     returns)

@@ -15,21 +15,6 @@ use borrow.Author.Needs.{needs}
 use Rattle.operands.proofs.constant_of.Statement.{statement}
 use Rattle.operands.proofs.constant_of.Tie as tie
 
-enum-told : tie.Need-enum-told
-enum-told c = search needs
-
-enum-told-2 : tie.Need-enum-told-2
-enum-told-2 c = search needs
-
-enum-told-3 : tie.Need-enum-told-3
-enum-told-3 c = search needs
-
-evaluate-requires : tie.Need-evaluate-requires
-evaluate-requires c κs = search needs
-
-returns : tie.Need-returns
-returns c = search needs
-
 returns-2 : tie.Need-returns-2
 returns-2 c = rw (c .evaluate .ensures, c .before .before .before .enum-told2 .given .1, c .before .enum-told3 .given .1)
 
@@ -47,4 +32,11 @@ returns-3 c = let a = c .before .before .before .before .before .args in
 pub constant-of-spec : {M : Type 1} → statement M
 constant-of-spec =
     tie.close
-    (tie.spec enum-told enum-told-2 enum-told-3 evaluate-requires returns returns-2 returns-3)
+    (tie.spec
+    (λ c. search needs)
+    (λ c. search needs)
+    (λ c. search needs)
+    (λ c κs. search needs)
+    (λ c. search needs)
+    returns-2
+    returns-3)

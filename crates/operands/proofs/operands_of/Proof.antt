@@ -15,48 +15,6 @@ use borrow.Author.Needs.{needs}
 use Rattle.operands.proofs.operands_of.Statement.{statement}
 use Rattle.operands.proofs.operands_of.Tie as tie
 
-evaluate-requires : tie.Need-evaluate-requires
-evaluate-requires c κs = search needs
-
-enum-known-shape : tie.Need-enum-known-shape
-enum-known-shape c = search needs
-
-evaluate-requires-2 : tie.Need-evaluate-requires-2
-evaluate-requires-2 c κs = search needs
-
-evaluate-requires-3 : tie.Need-evaluate-requires-3
-evaluate-requires-3 c κs = search needs
-
-enum-known-shape-2 : tie.Need-enum-known-shape-2
-enum-known-shape-2 c = search needs
-
-address-of-requires : tie.Need-address-of-requires
-address-of-requires c κs = search needs
-
-address-of-requires-2 : tie.Need-address-of-requires-2
-address-of-requires-2 c κs = search needs
-
-enum-known-shape-3 : tie.Need-enum-known-shape-3
-enum-known-shape-3 c = search needs
-
-address-of-requires-3 : tie.Need-address-of-requires-3
-address-of-requires-3 c κs = search needs
-
-evaluate-requires-4 : tie.Need-evaluate-requires-4
-evaluate-requires-4 c κs = search needs
-
-enum-known-shape-4 : tie.Need-enum-known-shape-4
-enum-known-shape-4 c = search needs
-
-address-of-requires-4 : tie.Need-address-of-requires-4
-address-of-requires-4 c κs = search needs
-
-enum-known-shape-5 : tie.Need-enum-known-shape-5
-enum-known-shape-5 c = search needs
-
-constant-of-requires : tie.Need-constant-of-requires
-constant-of-requires c κs = search needs
-
 alone : (look : ℕ → Meaning) (here : ℕ) (o : List ℕ) (x : Shape) → OneOf (3 ∷ 5 ∷ []) (tagOf the-type x) → Operands.Lone (evaluated look here (expressionAt o 0)) ≡ operandsOf look here o x
 unfolding operandsOf
 alone look here o (Shape.Fails p) k = absurd (miss (3 ∷ 5 ∷ []) 0 tt k)
@@ -69,9 +27,6 @@ alone look here o (Shape.TwoAddresses a b) k = absurd (miss (3 ∷ 5 ∷ []) 6 t
 alone look here o (Shape.AddressAndCode a q) k = absurd (miss (3 ∷ 5 ∷ []) 7 tt k)
 alone look here o (Shape.LoneAddress a) k = absurd (miss (3 ∷ 5 ∷ []) 8 tt k)
 alone look here o (Shape.Data d) k = absurd (miss (3 ∷ 5 ∷ []) 9 tt k)
-
-returns : tie.Need-returns
-returns c = rw (c .evaluate .ensures) (alone _ _ _ _ (c .before .match .keys1))
 
 returns-2 : tie.Need-returns-2
 unfolding operandsOf
@@ -106,31 +61,28 @@ none look here o (Shape.AddressAndCode a q) k = absurd (miss (0 ∷ 1 ∷ 2 ∷ 
 none look here o (Shape.LoneAddress a) k = absurd (miss (0 ∷ 1 ∷ 2 ∷ []) 8 tt k)
 none look here o (Shape.Data d) k = absurd (miss (0 ∷ 1 ∷ 2 ∷ []) 9 tt k)
 
-returns-7 : tie.Need-returns-7
-returns-7 c = none _ _ _ _ (c .match .keys7)
-
 pub operands-of-spec : {M : Type 1} → statement M
 operands-of-spec =
     tie.close
     (tie.spec
-    evaluate-requires
-    enum-known-shape
-    evaluate-requires-2
-    evaluate-requires-3
-    enum-known-shape-2
-    address-of-requires
-    address-of-requires-2
-    enum-known-shape-3
-    address-of-requires-3
-    evaluate-requires-4
-    enum-known-shape-4
-    address-of-requires-4
-    enum-known-shape-5
-    constant-of-requires
-    returns
+    (λ c κs. search needs)
+    (λ c. search needs)
+    (λ c κs. search needs)
+    (λ c κs. search needs)
+    (λ c. search needs)
+    (λ c κs. search needs)
+    (λ c κs. search needs)
+    (λ c. search needs)
+    (λ c κs. search needs)
+    (λ c κs. search needs)
+    (λ c. search needs)
+    (λ c κs. search needs)
+    (λ c. search needs)
+    (λ c κs. search needs)
+    (λ c. rw (c .evaluate .ensures) (alone _ _ _ _ (c .before .match .keys1)))
     returns-2
     returns-3
     returns-4
     returns-5
     returns-6
-    returns-7)
+    (λ c. none _ _ _ _ (c .match .keys7)))

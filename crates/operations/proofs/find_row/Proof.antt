@@ -15,24 +15,6 @@ Inv-loop rows key low₀ high₀ low high = (low ≤ high) × (high ≤ length r
 abbrev μ-loop : tie.MeasureT-loop
 μ-loop rows key low₀ high₀ low high = high - low
 
-loop-holds : tie.Need-loop-holds Inv-loop μ-loop
-loop-holds c = (omega arith, omega arith, λ i h. absurd (omega arith), λ i h k. absurd (omega arith))
-
-sub-middle : tie.Need-sub-middle Inv-loop μ-loop
-sub-middle c = omega arith
-
-add-middle : tie.Need-add-middle Inv-loop μ-loop
-add-middle c = omega arith
-
-mul-number-of : tie.Need-mul-number-of Inv-loop μ-loop
-mul-number-of c = omega arith
-
-shared-slice-copy-out-number-of : tie.Need-shared-slice-copy-out-number-of Inv-loop μ-loop
-shared-slice-copy-out-number-of c = omega arith
-
-number-of-requires : tie.Need-number-of-requires Inv-loop μ-loop
-number-of-requires c κs = search needs
-
 -- the number that was read is that of the middle row
 seen : (c : tie.After-number-of Inv-loop μ-loop) → c .number-of .result ≡ keyAt (c .before .before .before .before .args .rows .now) (c .before .before .before .loop .low + (c .before .before .before .loop .high - c .before .before .before .loop .low) / 2)
 seen c = c .number-of .ensures
@@ -40,17 +22,8 @@ seen c = c .number-of .ensures
 returns : tie.Need-returns Inv-loop μ-loop
 returns c = found (c .before .before .before .before .before .args .rows .now) (c .before .before .before .before .before .args .key) (c .before .before .before .before .before .pre) (c .before .before .before .before .loop .low + (c .before .before .before .before .loop .high - c .before .before .before .before .loop .low) / 2) (omega arith) (sym (seen (c .before)) ∙ c .if1 .taken)
 
-add-low : tie.Need-add-low Inv-loop μ-loop
-add-low c = omega arith
-
-loop-less : tie.Need-loop-less Inv-loop μ-loop
-loop-less c = omega arith
-
 loop-again : tie.Need-loop-again Inv-loop μ-loop
 loop-again c = (omega arith, c .before .before .before .before .before .loop .inv .1, lower-half (c .before .before .before .before .before .before .args .rows .now) (c .before .before .before .before .before .before .args .key) (c .before .before .before .before .before .before .pre) (c .before .before .before .before .before .loop .low + (c .before .before .before .before .before .loop .high - c .before .before .before .before .before .loop .low) / 2) (omega arith) (omega (arith, seen (c .before .before))), c .before .before .before .before .before .loop .inv .3)
-
-loop-less-2 : tie.Need-loop-less-2 Inv-loop μ-loop
-loop-less-2 c = omega arith
 
 loop-again-2 : tie.Need-loop-again-2 Inv-loop μ-loop
 loop-again-2 c = (omega arith, omega arith, c .before .before .before .before .before .loop .inv .2, upper-half (c .before .before .before .before .before .before .args .rows .now) (c .before .before .before .before .before .before .args .key) (c .before .before .before .before .before .before .pre) (c .before .before .before .before .before .loop .low + (c .before .before .before .before .before .loop .high - c .before .before .before .before .before .loop .low) / 2) (omega arith) (omega (arith, seen (c .before .before))))
@@ -64,16 +37,16 @@ find-row-spec =
     (tie.spec
     Inv-loop
     μ-loop
-    loop-holds
-    sub-middle
-    add-middle
-    mul-number-of
-    shared-slice-copy-out-number-of
-    number-of-requires
+    (λ c. (omega arith, omega arith, λ i h. absurd (omega arith), λ i h k. absurd (omega arith)))
+    (λ c. omega arith)
+    (λ c. omega arith)
+    (λ c. omega arith)
+    (λ c. omega arith)
+    (λ c κs. search needs)
     returns
-    add-low
-    loop-less
+    (λ c. omega arith)
+    (λ c. omega arith)
     loop-again
-    loop-less-2
+    (λ c. omega arith)
     loop-again-2
     returns-2)

@@ -9,18 +9,9 @@ use borrow.Author.Needs.{needs}
 use Rattle.operations.proofs.operation_at.Statement.{statement}
 use Rattle.operations.proofs.operation_at.Tie as tie
 
-word-size-requires : tie.Need-word-size-requires
-word-size-requires c κs = search needs
-
 returns : tie.Need-returns
 unfolding operationAt
 returns c = rw (lt-leb (c .before .before .before .args .to - c .before .before .before .args .from) 5 (omega arith))
-
-word-number-requires : tie.Need-word-number-requires
-word-number-requires c κs = search needs
-
-operation-of-requires : tie.Need-operation-of-requires
-operation-of-requires c κs = search needs
 
 returns-2 : tie.Need-returns-2
 unfolding operationAt
@@ -29,4 +20,9 @@ returns-2 c = rw (le-leb (c .before .before .before .before .before .args .to - 
 pub operation-at-spec : {M : Type 1} → statement M
 operation-at-spec =
     tie.close
-    (tie.spec word-size-requires returns word-number-requires operation-of-requires returns-2)
+    (tie.spec
+    (λ c κs. search needs)
+    returns
+    (λ c κs. search needs)
+    (λ c κs. search needs)
+    returns-2)

@@ -13,15 +13,9 @@ returns : tie.Need-returns
 unfolding sortedOperations sorted inserted model10 ownOperations twoAddresses oneAddresses branches jumps extendedMoves extendedBranches extendedJumps lettersOf number5
 returns c = sym (List·getD-eq-default sortedOperations Unknown (c .if1 .taken))
 
-mul-o : tie.Need-mul-o
-mul-o c = search needs
-
-array-copy-out-o : tie.Need-array-copy-out-o
-array-copy-out-o c = search needs
-
 returns-2 : tie.Need-returns-2
 unfolding sortedOperations sorted inserted model10 ownOperations twoAddresses oneAddresses branches jumps extendedMoves extendedBranches extendedJumps lettersOf number5
 returns-2 c = refl
 
 pub operation-in-spec : {M : Type 1} → statement M
-operation-in-spec = tie.close (tie.spec returns mul-o array-copy-out-o returns-2)
+operation-in-spec = tie.close (tie.spec returns (λ c. search needs) (λ c. search needs) returns-2)

@@ -8,14 +8,8 @@ use borrow.Author.Needs.{needs}
 use Rattle.operations.proofs.operation_of.Statement.{statement}
 use Rattle.operations.proofs.operation_of.Tie as tie
 
-row-of-requires : tie.Need-row-of-requires
-row-of-requires c κs = search needs
-
-operation-in-requires : tie.Need-operation-in-requires
-operation-in-requires c κs = search needs
-
 returns : tie.Need-returns
 returns c = c .operation-in .ensures ∙ ap (λ i. getD sortedOperations i Unknown) (c .before .row-of .ensures) ∙ by-row (c .before .before .args .key)
 
 pub operation-of-spec : {M : Type 1} → statement M
-operation-of-spec = tie.close (tie.spec row-of-requires operation-in-requires returns)
+operation-of-spec = tie.close (tie.spec (λ c κs. search needs) (λ c κs. search needs) returns)

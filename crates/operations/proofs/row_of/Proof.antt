@@ -7,9 +7,6 @@ use borrow.Author.Needs.{needs}
 use Rattle.operations.proofs.row_of.Statement.{statement}
 use Rattle.operations.proofs.row_of.Tie as tie
 
-slice-aggregate-find-row : tie.Need-slice-aggregate-find-row
-slice-aggregate-find-row c = search needs
-
 find-row-requires : tie.Need-find-row-requires
 unfolding sortedLetters sorted inserted model10 ownOperations twoAddresses oneAddresses branches jumps extendedMoves extendedBranches extendedJumps lettersOf number5
 find-row-requires c κs = sorted-rising
@@ -19,4 +16,4 @@ unfolding sortedLetters sorted inserted model10 ownOperations twoAddresses oneAd
 returns c = c .find-row .ensures
 
 pub row-of-spec : {M : Type 1} → statement M
-row-of-spec = tie.close (tie.spec slice-aggregate-find-row find-row-requires returns)
+row-of-spec = tie.close (tie.spec (λ c. search needs) find-row-requires returns)

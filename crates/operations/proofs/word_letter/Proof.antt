@@ -7,15 +7,6 @@ use borrow.Author.Needs.{needs}
 use Rattle.operations.proofs.word_letter.Statement.{statement}
 use Rattle.operations.proofs.word_letter.Tie as tie
 
-word-size-requires : tie.Need-word-size-requires
-word-size-requires c κs = search needs
-
-add-byte-at : tie.Need-add-byte-at
-add-byte-at c = search needs
-
-byte-at-requires : tie.Need-byte-at-requires
-byte-at-requires c κs = search needs
-
 returns : tie.Need-returns
 unfolding wordLetter
 returns c = rw (lt-ltb (c .before .before .before .before .args .from + c .before .before .before .before .args .k) (c .before .before .before .before .args .to) (omega arith)) (c .byte-at .ensures)
@@ -26,4 +17,5 @@ returns-2 c = rw (le-ltb (c .before .before .before .args .from + c .before .bef
 
 pub word-letter-spec : {M : Type 1} → statement M
 word-letter-spec =
-    tie.close (tie.spec word-size-requires add-byte-at byte-at-requires returns returns-2)
+    tie.close
+    (tie.spec (λ c κs. search needs) (λ c. search needs) (λ c κs. search needs) returns returns-2)

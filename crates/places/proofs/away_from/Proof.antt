@@ -17,12 +17,9 @@ returns-2 : tie.Need-returns-2
 unfolding awayFrom
 returns-2 c = let a = c .before .before .args in rw (le-leb _ _ (c .before .if1 .left), lt-leb (a .amount - a .from) 255 (omega arith))
 
-cast-displacement : tie.Need-cast-displacement
-cast-displacement c = search needs
-
 returns-3 : tie.Need-returns-3
 unfolding awayFrom
 returns-3 c = let a = c .before .before .args in rw (le-leb _ _ (c .before .if1 .left), le-leb (a .amount - a .from) 255 (omega arith))
 
 pub away-from-spec : {M : Type 1} → statement M
-away-from-spec = tie.close (tie.spec returns returns-2 cast-displacement returns-3)
+away-from-spec = tie.close (tie.spec returns returns-2 (λ c. search needs) returns-3)

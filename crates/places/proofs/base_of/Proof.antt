@@ -3,11 +3,7 @@ use borrow.Author.Tests.{eq-eqb, ne-eqb}
 use Rattle.places.proofs.base_of.Statement.{statement}
 use Rattle.places.proofs.base_of.Tie as tie
 
-returns : tie.Need-returns
-returns c = rw (eq-eqb _ _ (c .if1 .taken))
-
-returns-2 : tie.Need-returns-2
-returns-2 c = rw (ne-eqb _ _ (c .if1 .left))
-
 pub base-of-spec : {M : Type 1} → statement M
-base-of-spec = tie.close (tie.spec returns returns-2)
+base-of-spec =
+    tie.close
+    (tie.spec (λ c. rw (eq-eqb _ _ (c .if1 .taken))) (λ c. rw (ne-eqb _ _ (c .if1 .left))))

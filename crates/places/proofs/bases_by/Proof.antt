@@ -12,12 +12,6 @@ use borrow.Author.Needs.{needs}
 use Rattle.places.proofs.bases_by.Statement.{statement}
 use Rattle.places.proofs.bases_by.Tie as tie
 
-enum-told : tie.Need-enum-told
-enum-told c = search needs
-
-registered-requires : tie.Need-registered-requires
-registered-requires c κs = search needs
-
 returns : tie.Need-returns
 unfolding basesBy
 returns c = rw (c .registered .ensures, c .before .enum-told .given .1)
@@ -28,8 +22,11 @@ others Use.Jumps x bases k = refl
 others Use.Registers x bases k = absurd (miss (0 ∷ 2 ∷ []) 1 tt k)
 others Use.Nothing x bases k = refl
 
-returns-2 : tie.Need-returns-2
-returns-2 c = others (c .before .args .u) (c .before .args .x) (c .before .args .bases) (c .match .keys2)
-
 pub bases-by-spec : {M : Type 1} → statement M
-bases-by-spec = tie.close (tie.spec enum-told registered-requires returns returns-2)
+bases-by-spec =
+    tie.close
+    (tie.spec
+    (λ c. search needs)
+    (λ c κs. search needs)
+    returns
+    (λ c. others (c .before .args .u) (c .before .args .x) (c .before .args .bases) (c .match .keys2)))

@@ -4,18 +4,6 @@ use borrow.Author.Needs.{needs}
 use Rattle.places.proofs.displaced.Statement.{statement}
 use Rattle.places.proofs.displaced.Tie as tie
 
-enum-known-v : tie.Need-enum-known-v
-enum-known-v c = search needs
-
-away-from-requires : tie.Need-away-from-requires
-away-from-requires c κs = search needs
-
-enum-known-v-2 : tie.Need-enum-known-v-2
-enum-known-v-2 c = search needs
-
-under-base-requires : tie.Need-under-base-requires
-under-base-requires c κs = search needs
-
 returns : tie.Need-returns
 unfolding displacedBy
 returns c = rw (c .away-from .ensures, c .before .before .v .given .1)
@@ -27,4 +15,10 @@ returns-2 c = rw (c .under-base .ensures, c .before .before .v2 .given .1)
 pub displaced-spec : {M : Type 1} → statement M
 displaced-spec =
     tie.close
-    (tie.spec enum-known-v away-from-requires enum-known-v-2 under-base-requires returns returns-2)
+    (tie.spec
+    (λ c. search needs)
+    (λ c κs. search needs)
+    (λ c. search needs)
+    (λ c κs. search needs)
+    returns
+    returns-2)

@@ -9,15 +9,6 @@ returns : tie.Need-returns
 unfolding indexedBy
 returns c = rw (lt-leb _ _ (c .if1 .taken))
 
-cast-displaced : tie.Need-cast-displaced
-cast-displaced c = search needs
-
-base-of-requires : tie.Need-base-of-requires
-base-of-requires c κs = search needs
-
-displaced-requires : tie.Need-displaced-requires
-displaced-requires c κs = search needs
-
 returns-2 : tie.Need-returns-2
 unfolding indexedBy
 returns-2 c = rw (le-leb _ _ (c .before .before .before .if1 .left), le-leb _ _ (c .before .before .if2 .taken), c .displaced .ensures, c .before .base-of .ensures)
@@ -29,4 +20,10 @@ returns-3 c = rw (le-leb _ _ (c .before .if1 .left), lt-leb _ _ (c .if2 .left))
 pub indexed-spec : {M : Type 1} → statement M
 indexed-spec =
     tie.close
-    (tie.spec returns cast-displaced base-of-requires displaced-requires returns-2 returns-3)
+    (tie.spec
+    returns
+    (λ c. search needs)
+    (λ c κs. search needs)
+    (λ c κs. search needs)
+    returns-2
+    returns-3)

@@ -13,12 +13,9 @@ returns-2 : tie.Need-returns-2
 unfolding jumpCode
 returns-2 c = rw (le-leb _ _ (c .before .if1 .left), lt-leb _ _ (c .if2 .taken))
 
-cast-t6 : tie.Need-cast-t6
-cast-t6 c = search needs
-
 returns-3 : tie.Need-returns-3
 unfolding jumpCode
 returns-3 c = rw (le-leb _ _ (c .before .if1 .left), le-leb _ _ (c .if2 .left))
 
 pub jump-code-spec : {M : Type 1} → statement M
-jump-code-spec = tie.close (tie.spec returns returns-2 cast-t6 returns-3)
+jump-code-spec = tie.close (tie.spec returns returns-2 (λ c. search needs) returns-3)

@@ -4,18 +4,6 @@ use borrow.Author.Needs.{needs}
 use Rattle.places.proofs.operand_of.Statement.{statement}
 use Rattle.places.proofs.operand_of.Tie as tie
 
-value-in-requires : tie.Need-value-in-requires
-value-in-requires c κs = search needs
-
-enum-known-v : tie.Need-enum-known-v
-enum-known-v c = search needs
-
-by-register-requires : tie.Need-by-register-requires
-by-register-requires c κs = search needs
-
-enum-told : tie.Need-enum-told
-enum-told c = search needs
-
 returns : tie.Need-returns
 unfolding operandOf
 returns c = rw (c .by-register .ensures, ← c .before .before .before .before .value-in .ensures, c .before .before .v .given .1)
@@ -27,4 +15,10 @@ returns-2 c = rw (← c .before .before .value-in .ensures, c .enum-told .given 
 pub operand-of-spec : {M : Type 1} → statement M
 operand-of-spec =
     tie.close
-    (tie.spec value-in-requires enum-known-v by-register-requires enum-told returns returns-2)
+    (tie.spec
+    (λ c κs. search needs)
+    (λ c. search needs)
+    (λ c κs. search needs)
+    (λ c. search needs)
+    returns
+    returns-2)

@@ -10,26 +10,18 @@ use borrow.Author.Needs.{needs}
 use Rattle.places.proofs.placed_no.Statement.{statement}
 use Rattle.places.proofs.placed_no.Tie as tie
 
-enum-told : tie.Need-enum-told
-enum-told c = search needs
-
-enum-told-2 : tie.Need-enum-told-2
-enum-told-2 c = search needs
-
-returns : tie.Need-returns
-returns c = search needs
-
-returns-2 : tie.Need-returns-2
-returns-2 c = search needs
-
 others : (p : Placed) → OneOf (0 ∷ 3 ∷ []) (tagOf the-type p) → 0 ≡ placedNo p
 others (Placed.At x) k = refl
 others Placed.NoBase k = absurd (miss (0 ∷ 3 ∷ []) 1 tt k)
 others Placed.OutOfReach k = absurd (miss (0 ∷ 3 ∷ []) 2 tt k)
 others Placed.Nothing k = refl
 
-returns-3 : tie.Need-returns-3
-returns-3 c = others (c .before .args .p) (c .match .keys3)
-
 pub placed-no-spec : {M : Type 1} → statement M
-placed-no-spec = tie.close (tie.spec enum-told enum-told-2 returns returns-2 returns-3)
+placed-no-spec =
+    tie.close
+    (tie.spec
+    (λ c. search needs)
+    (λ c. search needs)
+    (λ c. search needs)
+    (λ c. search needs)
+    (λ c. others (c .before .args .p) (c .match .keys3)))

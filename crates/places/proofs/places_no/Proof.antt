@@ -13,36 +13,6 @@ use borrow.Author.Needs.{needs}
 use Rattle.places.proofs.places_no.Statement.{statement}
 use Rattle.places.proofs.places_no.Tie as tie
 
-enum-known-x : tie.Need-enum-known-x
-enum-known-x c = search needs
-
-two-places-no-requires : tie.Need-two-places-no-requires
-two-places-no-requires c κs = search needs
-
-enum-known-x-2 : tie.Need-enum-known-x-2
-enum-known-x-2 c = search needs
-
-address-place-no-requires : tie.Need-address-place-no-requires
-address-place-no-requires c κs = search needs
-
-enum-known-x-3 : tie.Need-enum-known-x-3
-enum-known-x-3 c = search needs
-
-address-place-no-requires-2 : tie.Need-address-place-no-requires-2
-address-place-no-requires-2 c κs = search needs
-
-enum-known-x-4 : tie.Need-enum-known-x-4
-enum-known-x-4 c = search needs
-
-use-no-requires : tie.Need-use-no-requires
-use-no-requires c κs = search needs
-
-enum-known-x-5 : tie.Need-enum-known-x-5
-enum-known-x-5 c = search needs
-
-use-no-requires-2 : tie.Need-use-no-requires-2
-use-no-requires-2 c κs = search needs
-
 returns : tie.Need-returns
 unfolding placesNo
 returns c = rw (c .two-places-no .ensures, c .before .before .x .given .1)
@@ -80,16 +50,16 @@ pub places-no-spec : {M : Type 1} → statement M
 places-no-spec =
     tie.close
     (tie.spec
-    enum-known-x
-    two-places-no-requires
-    enum-known-x-2
-    address-place-no-requires
-    enum-known-x-3
-    address-place-no-requires-2
-    enum-known-x-4
-    use-no-requires
-    enum-known-x-5
-    use-no-requires-2
+    (λ c. search needs)
+    (λ c κs. search needs)
+    (λ c. search needs)
+    (λ c κs. search needs)
+    (λ c. search needs)
+    (λ c κs. search needs)
+    (λ c. search needs)
+    (λ c κs. search needs)
+    (λ c. search needs)
+    (λ c κs. search needs)
     returns
     returns-2
     returns-3

@@ -10,19 +10,15 @@ use borrow.Author.Needs.{needs}
 use Rattle.places.proofs.reach_no.Statement.{statement}
 use Rattle.places.proofs.reach_no.Tie as tie
 
-enum-told : tie.Need-enum-told
-enum-told c = search needs
-
-returns : tie.Need-returns
-returns c = search needs
-
 others : (x : Code) → OneOf (0 ∷ 2 ∷ []) (tagOf the-type x) → 0 ≡ reachNo x
 others (Code.Byte b) k = refl
 others Code.OutOfRange k = absurd (miss (0 ∷ 2 ∷ []) 1 tt k)
 others Code.Nothing k = refl
 
-returns-2 : tie.Need-returns-2
-returns-2 c = others (c .before .args .c) (c .match .keys2)
-
 pub reach-no-spec : {M : Type 1} → statement M
-reach-no-spec = tie.close (tie.spec enum-told returns returns-2)
+reach-no-spec =
+    tie.close
+    (tie.spec
+    (λ c. search needs)
+    (λ c. search needs)
+    (λ c. others (c .before .args .c) (c .match .keys2)))

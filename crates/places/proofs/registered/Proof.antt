@@ -11,24 +11,6 @@ use borrow.Author.Needs.{needs}
 use Rattle.places.proofs.registered.Statement.{statement}
 use Rattle.places.proofs.registered.Tie as tie
 
-enum-known-x : tie.Need-enum-known-x
-enum-known-x c = search needs
-
-using-base-requires : tie.Need-using-base-requires
-using-base-requires c κs = search needs
-
-enum-known-x-2 : tie.Need-enum-known-x-2
-enum-known-x-2 c = search needs
-
-drop-base-requires : tie.Need-drop-base-requires
-drop-base-requires c κs = search needs
-
-returns : tie.Need-returns
-returns c = rw (c .using-base .ensures, c .before .before .x .given .1)
-
-returns-2 : tie.Need-returns-2
-returns-2 c = rw (c .drop-base .ensures, c .before .before .x2 .given .1)
-
 others : (x : Operands) (bases : Bases) → OneOf (0 ∷ 1 ∷ 2 ∷ 5 ∷ 6 ∷ []) (tagOf the-type x) → bases ≡ registeredBy x bases
 others (Operands.TwoAddresses a b) bases k = refl
 others (Operands.AddressAndCode a q) bases k = refl
@@ -38,17 +20,14 @@ others (Operands.Lone e) bases k = absurd (miss (0 ∷ 1 ∷ 2 ∷ 5 ∷ 6 ∷ [
 others (Operands.AddressConstants n m e) bases k = refl
 others Operands.None bases k = refl
 
-returns-3 : tie.Need-returns-3
-returns-3 c = others (c .before .args .x) (c .before .args .bases) (c .match .keys3)
-
 pub registered-spec : {M : Type 1} → statement M
 registered-spec =
     tie.close
     (tie.spec
-    enum-known-x
-    using-base-requires
-    enum-known-x-2
-    drop-base-requires
-    returns
-    returns-2
-    returns-3)
+    (λ c. search needs)
+    (λ c κs. search needs)
+    (λ c. search needs)
+    (λ c κs. search needs)
+    (λ c. rw (c .using-base .ensures, c .before .before .x .given .1))
+    (λ c. rw (c .drop-base .ensures, c .before .before .x2 .given .1))
+    (λ c. others (c .before .args .x) (c .before .args .bases) (c .match .keys3)))

@@ -20,30 +20,15 @@ Inv-loop book sum₀ cursor₀ sum cursor = (sum ≤ 788 * cursor .card) × (cur
 abbrev μ-loop : tie.MeasureT-loop
 μ-loop book sum₀ cursor₀ sum cursor = length book - cursor .at
 
-first-requires : tie.Need-first-requires Inv-loop μ-loop
-first-requires c κs = search needs
-
 loop-holds : tie.Need-loop-holds Inv-loop μ-loop
 loop-holds c = let (e, q) = c .before .before .pre in rw (c .first .ensures .0, c .first .ensures .1) (omega arith, omega arith, start _ e q _ (omega arith))
-
-next-requires : tie.Need-next-requires Inv-loop μ-loop
-next-requires c κs = search needs
-
-enum-known-p : tie.Need-enum-known-p Inv-loop μ-loop
-enum-known-p c = search needs
 
 -- the record that the reader gave
 read : (c : tie.After-p Inv-loop μ-loop) → Step.Record (c .p .given .0 .0) (c .p .given .0 .1 .0) ≡ stepAt (c .before .before .before .before .before .before .args .book .now) (c .before .before .before .loop .cursor .at) (c .before .before .before .loop .cursor .card)
 read c = sym (c .p .given .1) ∙ c .before .before .next .ensures
 
-line-length-requires : tie.Need-line-length-requires Inv-loop μ-loop
-line-length-requires c κs = let g = gave _ _ _ _ _ (read (c .before)) .sound in (g .few, g .short)
-
 add-sum : tie.Need-add-sum Inv-loop μ-loop
 add-sum c = let l = c .before .before .before .before .before .loop .inv in let r = c .line-length .ensures .1 in omega (arith, l .0, l .1)
-
-loop-less : tie.Need-loop-less Inv-loop μ-loop
-loop-less c = let g = gave _ _ _ _ _ (read (c .before .before)) in omega (arith, g .on, g .within)
 
 loop-again : tie.Need-loop-again Inv-loop μ-loop
 loop-again c =
@@ -66,12 +51,12 @@ lines-length-spec =
     (tie.spec
     Inv-loop
     μ-loop
-    first-requires
+    (λ c κs. search needs)
     loop-holds
-    next-requires
-    enum-known-p
-    line-length-requires
+    (λ c κs. search needs)
+    (λ c. search needs)
+    (λ c κs. let g = gave _ _ _ _ _ (read (c .before)) .sound in (g .few, g .short))
     add-sum
-    loop-less
+    (λ c. let g = gave _ _ _ _ _ (read (c .before .before)) in omega (arith, g .on, g .within))
     loop-again
     returns)

@@ -6,12 +6,6 @@ use Rattle.print.proofs.Laws.{room, no-room}
 use Rattle.print.proofs.print_line.Statement.{statement}
 use Rattle.print.proofs.print_line.Tie as tie
 
-put-bytes-requires : tie.Need-put-bytes-requires
-put-bytes-requires c κs = search needs
-
-same-length : tie.Need-same-length
-same-length c = search needs
-
 returns : tie.Need-returns
 returns c = (refl, c .before .before .put-bytes .ensures ∙ sym (room (c .before .before .before .before .before .before .before .args .line .now) (c .before .before .before .before .before .before .before .args .out .now) (omega arith)))
 
@@ -19,4 +13,4 @@ returns-2 : tie.Need-returns-2
 returns-2 c = (refl, sym (no-room (c .before .before .before .args .line .now) (c .before .before .before .args .out .now) (omega arith)))
 
 pub print-line-spec : {M : Type 1} → statement M
-print-line-spec = tie.close (tie.spec put-bytes-requires same-length returns returns-2)
+print-line-spec = tie.close (tie.spec (λ c κs. search needs) (λ c. search needs) returns returns-2)

@@ -13,20 +13,8 @@ use Rattle.values.proofs.Laws.{then}
 use Rattle.print.proofs.print_lines.Statement.{statement}
 use Rattle.print.proofs.print_lines.Tie as tie
 
-lines-length-requires : tie.Need-lines-length-requires
-lines-length-requires c κs = search needs
-
-add-all : tie.Need-add-all
-add-all c = search needs
-
 put-header-line-requires : tie.Need-put-header-line-requires
 put-header-line-requires c κs = let (e, q) = c .before .before .before .before .before .pre in let all = c .before .before .lines-length .ensures .0 in (omega arith, long-enough _ e q)
-
-put-records-requires : tie.Need-put-records-requires
-put-records-requires c κs = search needs
-
-same-length : tie.Need-same-length
-same-length c = search needs
 
 whole : (c : tie.After-lines-length) → 20 + c .lines-length .result ≡ length (bookLines (c .before .before .before .args .book .now))
 whole c =
@@ -55,10 +43,10 @@ pub print-lines-spec : {M : Type 1} → statement M
 print-lines-spec =
     tie.close
     (tie.spec
-    lines-length-requires
-    add-all
+    (λ c κs. search needs)
+    (λ c. search needs)
     put-header-line-requires
-    put-records-requires
-    same-length
+    (λ c κs. search needs)
+    (λ c. search needs)
     returns
     returns-2)

@@ -15,36 +15,6 @@ Inv-loop m₀ to bytes end at₀ i₀ m at i = (i ≤ length bytes) × (at ≡ t
 abbrev μ-loop : tie.MeasureT-loop
 μ-loop m₀ to bytes end at₀ i₀ m at i = length bytes - i
 
-loop-holds : tie.Need-loop-holds Inv-loop μ-loop
-loop-holds c = (omega arith, omega arith, refl, refl)
-
-shared-slice-read-b : tie.Need-shared-slice-read-b Inv-loop μ-loop
-shared-slice-read-b c = omega arith
-
-digit-requires : tie.Need-digit-requires Inv-loop μ-loop
-digit-requires c κs = omega (arith, c .shared-slice-known2 .given (c .before .before .loop .i))
-
-digit-requires-2 : tie.Need-digit-requires-2 Inv-loop μ-loop
-digit-requires-2 c κs = omega arith
-
-slice-write-m : tie.Need-slice-write-m Inv-loop μ-loop
-slice-write-m c = omega arith
-
-add-m : tie.Need-add-m Inv-loop μ-loop
-add-m c = omega arith
-
-slice-write-m-2 : tie.Need-slice-write-m-2 Inv-loop μ-loop
-slice-write-m-2 c = simp length-set (omega arith)
-
-add-at : tie.Need-add-at Inv-loop μ-loop
-add-at c = omega arith
-
-add-i : tie.Need-add-i Inv-loop μ-loop
-add-i c = omega arith
-
-loop-less : tie.Need-loop-less Inv-loop μ-loop
-loop-less c = omega arith
-
 loop-again : tie.Need-loop-again Inv-loop μ-loop
 loop-again c =
     let a = c .before .before .before .before .before .before .before .args in let l = c .before .before .before .before .loop in (
@@ -53,15 +23,6 @@ loop-again c =
       simp length-set (l .inv .2),
       l .inv .3 ∙ column-turn (l .m) (l .at) (a .bytes .now) (l .i) (a .end) _ _ (omega arith) (c .before .digit .ensures) (c .digit2 .ensures),
     )
-
-slice-write-m-3 : tie.Need-slice-write-m-3 Inv-loop μ-loop
-slice-write-m-3 c = omega arith
-
-add-result : tie.Need-add-result Inv-loop μ-loop
-add-result c = omega arith
-
-same-length : tie.Need-same-length Inv-loop μ-loop
-same-length c = simp length-set (c .before .loop .inv .2)
 
 returns : tie.Need-returns Inv-loop μ-loop
 returns c =
@@ -74,18 +35,18 @@ put-column-spec =
     (tie.spec
     Inv-loop
     μ-loop
-    loop-holds
-    shared-slice-read-b
-    digit-requires
-    digit-requires-2
-    slice-write-m
-    add-m
-    slice-write-m-2
-    add-at
-    add-i
-    loop-less
+    (λ c. (omega arith, omega arith, refl, refl))
+    (λ c. omega arith)
+    (λ c κs. omega (arith, c .shared-slice-known2 .given (c .before .before .loop .i)))
+    (λ c κs. omega arith)
+    (λ c. omega arith)
+    (λ c. omega arith)
+    (λ c. simp length-set (omega arith))
+    (λ c. omega arith)
+    (λ c. omega arith)
+    (λ c. omega arith)
     loop-again
-    slice-write-m-3
-    add-result
-    same-length
+    (λ c. omega arith)
+    (λ c. omega arith)
+    (λ c. simp length-set (c .before .loop .inv .2))
     returns)

@@ -7,33 +7,6 @@ use Rattle.print.proofs.Laws.{head-is, then-column}
 use Rattle.print.proofs.put_head_columns.Statement.{statement}
 use Rattle.print.proofs.put_head_columns.Tie as tie
 
-add-rest : tie.Need-add-rest
-add-rest c = search needs
-
-add-rest-2 : tie.Need-add-rest-2
-add-rest-2 c = search needs
-
-cast-put-word-column : tie.Need-cast-put-word-column
-cast-put-word-column c = search needs
-
-put-word-column-requires : tie.Need-put-word-column-requires
-put-word-column-requires c κs = search needs
-
-put-word-column-requires-2 : tie.Need-put-word-column-requires-2
-put-word-column-requires-2 c κs = search needs
-
-put-word-column-requires-3 : tie.Need-put-word-column-requires-3
-put-word-column-requires-3 c κs = search needs
-
-cast-put-byte-column : tie.Need-cast-put-byte-column
-cast-put-byte-column c = search needs
-
-put-byte-column-requires : tie.Need-put-byte-column-requires
-put-byte-column-requires c κs = search needs
-
-same-length : tie.Need-same-length
-same-length c = search needs
-
 returns : tie.Need-returns
 returns c =
     let a = c .before .before .before .before .before .before .before .before .before .before .before .before .before .before .before .before .before .before .before .before .args in let p = c .before .before .before .before .before .before .before .before .before .before .before .before .before .before .before .put-word-column in let q = c .before .before .before .before .before .before .before .before .before .before .before .put-word-column2 in let r = c .before .before .before .before .before .before .before .put-word-column3 in let t = c .before .before .put-byte-column in
@@ -47,13 +20,13 @@ pub put-head-columns-spec : {M : Type 1} → statement M
 put-head-columns-spec =
     tie.close
     (tie.spec
-    add-rest
-    add-rest-2
-    cast-put-word-column
-    put-word-column-requires
-    put-word-column-requires-2
-    put-word-column-requires-3
-    cast-put-byte-column
-    put-byte-column-requires
-    same-length
+    (λ c. search needs)
+    (λ c. search needs)
+    (λ c. search needs)
+    (λ c κs. search needs)
+    (λ c κs. search needs)
+    (λ c κs. search needs)
+    (λ c. search needs)
+    (λ c κs. search needs)
+    (λ c. search needs)
     returns)

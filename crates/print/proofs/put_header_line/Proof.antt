@@ -8,57 +8,6 @@ use lib.Seq.{sets}
 use Rattle.print.proofs.put_header_line.Statement.{statement}
 use Rattle.print.proofs.put_header_line.Tie as tie
 
-sub-put-column : tie.Need-sub-put-column
-sub-put-column c = search needs
-
-part-put-column-start : tie.Need-part-put-column-start
-part-put-column-start c = search needs
-
-part-put-column-end : tie.Need-part-put-column-end
-part-put-column-end c = search needs
-
-put-column-requires : tie.Need-put-column-requires
-put-column-requires c κs = search needs
-
-sub-put-column-2 : tie.Need-sub-put-column-2
-sub-put-column-2 c = search needs
-
-part-put-column-start-2 : tie.Need-part-put-column-start-2
-part-put-column-start-2 c = search needs
-
-part-put-column-end-2 : tie.Need-part-put-column-end-2
-part-put-column-end-2 c = search needs
-
-put-column-requires-2 : tie.Need-put-column-requires-2
-put-column-requires-2 c κs = search needs
-
-sub-put-column-3 : tie.Need-sub-put-column-3
-sub-put-column-3 c = search needs
-
-part-put-column-start-3 : tie.Need-part-put-column-start-3
-part-put-column-start-3 c = search needs
-
-part-put-column-end-3 : tie.Need-part-put-column-end-3
-part-put-column-end-3 c = search needs
-
-put-column-requires-3 : tie.Need-put-column-requires-3
-put-column-requires-3 c κs = search needs
-
-sub-put-column-4 : tie.Need-sub-put-column-4
-sub-put-column-4 c = search needs
-
-part-put-column-start-4 : tie.Need-part-put-column-start-4
-part-put-column-start-4 c = search needs
-
-part-put-column-end-4 : tie.Need-part-put-column-end-4
-part-put-column-end-4 c = search needs
-
-put-column-requires-4 : tie.Need-put-column-requires-4
-put-column-requires-4 c κs = search needs
-
-same-length : tie.Need-same-length
-same-length c = search needs
-
 returns : tie.Need-returns
 returns c =
     let a = c .before .before .before .before .before .before .before .before .before .before .before .before .before .before .before .before .before .before .before .before .before .before .args in let s = a .book .now in let p = c .before .before .before .before .before .before .before .before .before .before .before .before .before .before .before .before .before .put-column in let q = c .before .before .before .before .before .before .before .before .before .before .before .before .put-column2 in let r = c .before .before .before .before .before .before .before .put-column3 in let t = c .before .before .put-column4 in let long = c .before .before .before .before .before .before .before .before .before .before .before .before .before .before .before .before .before .before .before .before .before .before .pre .1 in
@@ -73,21 +22,21 @@ pub put-header-line-spec : {M : Type 1} → statement M
 put-header-line-spec =
     tie.close
     (tie.spec
-    sub-put-column
-    part-put-column-start
-    part-put-column-end
-    put-column-requires
-    sub-put-column-2
-    part-put-column-start-2
-    part-put-column-end-2
-    put-column-requires-2
-    sub-put-column-3
-    part-put-column-start-3
-    part-put-column-end-3
-    put-column-requires-3
-    sub-put-column-4
-    part-put-column-start-4
-    part-put-column-end-4
-    put-column-requires-4
-    same-length
+    (λ c. search needs)
+    (λ c. search needs)
+    (λ c. search needs)
+    (λ c κs. search needs)
+    (λ c. search needs)
+    (λ c. search needs)
+    (λ c. search needs)
+    (λ c κs. search needs)
+    (λ c. search needs)
+    (λ c. search needs)
+    (λ c. search needs)
+    (λ c κs. search needs)
+    (λ c. search needs)
+    (λ c. search needs)
+    (λ c. search needs)
+    (λ c κs. search needs)
+    (λ c. search needs)
     returns)

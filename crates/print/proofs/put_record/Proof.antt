@@ -13,18 +13,6 @@ use Rattle.values.proofs.Laws.{then}
 use Rattle.print.proofs.put_record.Statement.{statement}
 use Rattle.print.proofs.put_record.Tie as tie
 
-put-head-columns-requires : tie.Need-put-head-columns-requires
-put-head-columns-requires c κs = search needs
-
-put-offsets-requires : tie.Need-put-offsets-requires
-put-offsets-requires c κs = search needs
-
-put-text-requires : tie.Need-put-text-requires
-put-text-requires c κs = search needs
-
-same-length : tie.Need-same-length
-same-length c = search needs
-
 returns : tie.Need-returns
 returns c =
     let a = c .before .before .before .before .before .before .before .before .before .before .before .before .before .before .args in let s = a .book .now in let ok = c .before .before .before .before .before .before .before .before .before .before .before .before .before .before .pre .0 in
@@ -41,4 +29,9 @@ returns c =
 pub put-record-spec : {M : Type 1} → statement M
 put-record-spec =
     tie.close
-    (tie.spec put-head-columns-requires put-offsets-requires put-text-requires same-length returns)
+    (tie.spec
+    (λ c κs. search needs)
+    (λ c κs. search needs)
+    (λ c κs. search needs)
+    (λ c. search needs)
+    returns)

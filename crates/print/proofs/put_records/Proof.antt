@@ -24,17 +24,8 @@ Inv-loop m₀ to book at₀ cursor₀ m at cursor =
 abbrev μ-loop : tie.MeasureT-loop
 μ-loop m₀ to book at₀ cursor₀ m at cursor = length book - cursor .at
 
-first-requires : tie.Need-first-requires Inv-loop μ-loop
-first-requires c κs = search needs
-
 loop-holds : tie.Need-loop-holds Inv-loop μ-loop
 loop-holds c = let (e, q) = c .before .before .before .pre .0 in rw (c .first .ensures .0, c .first .ensures .1) (refl, start _ e q _ (refl, c .before .before .before .pre .1))
-
-next-requires : tie.Need-next-requires Inv-loop μ-loop
-next-requires c κs = search needs
-
-enum-known-p : tie.Need-enum-known-p Inv-loop μ-loop
-enum-known-p c = search needs
 
 -- the record that the reader gave
 read : (c : tie.After-p Inv-loop μ-loop) → Step.Record (c .p .given .0 .0) (c .p .given .0 .1 .0) ≡ stepAt (c .before .before .before .before .before .before .before .args .book .now) (c .before .before .before .loop .cursor .at) (c .before .before .before .loop .cursor .card)
@@ -57,9 +48,6 @@ fits c =
     let same = l .inv .0 in
     omega arith
 
-put-record-requires : tie.Need-put-record-requires Inv-loop μ-loop
-put-record-requires c κs = (gave _ _ _ _ _ (read (c .before .before)) .sound, fits (c .before .before))
-
 loop-less : tie.Need-loop-less Inv-loop μ-loop
 loop-less c = let g = gave _ _ _ _ _ (read (c .before .before .before .before .before)) in omega (arith, g .on, g .within)
 
@@ -80,9 +68,6 @@ loop-again c =
           )),
     )
 
-same-length : tie.Need-same-length Inv-loop μ-loop
-same-length c = c .before .before .loop .inv .0
-
 returns : tie.Need-returns Inv-loop μ-loop
 returns c = let l = c .before .before .loop in let (e, fits) = no-more _ _ _ _ (l .inv .1) _ (c .match .keys2) (c .before .next .ensures) in sym (e ∙ ap (λ vs. sets (l .m) (l .at) vs) lines-none)
 
@@ -92,12 +77,12 @@ put-records-spec =
     (tie.spec
     Inv-loop
     μ-loop
-    first-requires
+    (λ c κs. search needs)
     loop-holds
-    next-requires
-    enum-known-p
-    put-record-requires
+    (λ c κs. search needs)
+    (λ c. search needs)
+    (λ c κs. (gave _ _ _ _ _ (read (c .before .before)) .sound, fits (c .before .before)))
     loop-less
     loop-again
-    same-length
+    (λ c. c .before .before .loop .inv .0)
     returns)

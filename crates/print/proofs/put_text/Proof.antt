@@ -8,23 +8,8 @@ use Rattle.print.specs.Print.{column}
 use Rattle.print.proofs.put_text.Statement.{statement}
 use Rattle.print.proofs.put_text.Tie as tie
 
-add-end : tie.Need-add-end
-add-end c = search needs
-
-sub-put-column : tie.Need-sub-put-column
-sub-put-column c = search needs
-
-part-put-column-start : tie.Need-part-put-column-start
-part-put-column-start c = search needs
-
-part-put-column-end : tie.Need-part-put-column-end
-part-put-column-end c = search needs
-
 put-column-requires : tie.Need-put-column-requires
 put-column-requires c κs = let a = c .before .before .before .before .before .args in rw (between-length (a .book .now) (a .p .text) (a .p .size) (c .before .before .before .before .before .pre .0 .text)) (c .before .before .before .before .before .pre .1)
-
-same-length : tie.Need-same-length
-same-length c = search needs
 
 returns : tie.Need-returns
 returns c = let a = c .before .before .before .before .before .before .before .before .args in let r = c .before .before .put-column in
@@ -36,10 +21,10 @@ pub put-text-spec : {M : Type 1} → statement M
 put-text-spec =
     tie.close
     (tie.spec
-    add-end
-    sub-put-column
-    part-put-column-start
-    part-put-column-end
+    (λ c. search needs)
+    (λ c. search needs)
+    (λ c. search needs)
+    (λ c. search needs)
     put-column-requires
-    same-length
+    (λ c. search needs)
     returns)

@@ -9,21 +9,6 @@ use borrow.Author.Needs.{needs}
 use Rattle.print.proofs.put_word_column.Statement.{statement}
 use Rattle.print.proofs.put_word_column.Tie as tie
 
-cast-high : tie.Need-cast-high
-cast-high c = search needs
-
-cast-low : tie.Need-cast-low
-cast-low c = search needs
-
-slice-aggregate-put-column : tie.Need-slice-aggregate-put-column
-slice-aggregate-put-column c = search needs
-
-put-column-requires : tie.Need-put-column-requires
-put-column-requires c κs = search needs
-
-same-length : tie.Need-same-length
-same-length c = search needs
-
 returns : tie.Need-returns
 returns c =
     let a = c .before .before .before .before .before .before .args in
@@ -34,9 +19,9 @@ pub put-word-column-spec : {M : Type 1} → statement M
 put-word-column-spec =
     tie.close
     (tie.spec
-    cast-high
-    cast-low
-    slice-aggregate-put-column
-    put-column-requires
-    same-length
+    (λ c. search needs)
+    (λ c. search needs)
+    (λ c. search needs)
+    (λ c κs. search needs)
+    (λ c. search needs)
     returns)

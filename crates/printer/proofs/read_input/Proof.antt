@@ -15,35 +15,11 @@ Inv-loop buffer₀ have₀ buffer have = (have ≤ length buffer) × (length buf
 abbrev μ-loop : tie.MeasureT-loop
 μ-loop buffer₀ have₀ buffer have = length buffer₀ - have
 
-loop-holds : tie.Need-loop-holds Inv-loop μ-loop
-loop-holds c = (omega arith, refl)
-
-sub-read-piece : tie.Need-sub-read-piece Inv-loop μ-loop
-sub-read-piece c = omega arith
-
-part-read-piece-start : tie.Need-part-read-piece-start Inv-loop μ-loop
-part-read-piece-start c = search needs
-
-part-read-piece-end : tie.Need-part-read-piece-end Inv-loop μ-loop
-part-read-piece-end c = search needs
-
-read-piece-requires : tie.Need-read-piece-requires Inv-loop μ-loop
-read-piece-requires c κs = search needs
-
-enum-told : tie.Need-enum-told Inv-loop μ-loop
-enum-told c = search needs
-
 same : (c : tie.After-read-piece Inv-loop μ-loop) → length (putMid (c .before .before .before .loop .have) (length (c .before .before .before .loop .buffer) - c .before .before .before .loop .have) (c .before .before .before .loop .buffer) (c .read-piece .last .0)) ≡ length (c .before .before .before .loop .buffer)
 same c = let l = c .before .before .before .loop in same-len-mid (l .have) (length (l .buffer) - l .have) (l .buffer) (c .read-piece .last .0) (c .read-piece .kept .0)
 
 same-length : tie.Need-same-length Inv-loop μ-loop
 same-length c = same (c .before .before .before .before) ∙ c .before .before .before .before .before .before .before .loop .inv .1
-
-returns : tie.Need-returns Inv-loop μ-loop
-returns c = omega arith
-
-enum-known-more : tie.Need-enum-known-more Inv-loop μ-loop
-enum-known-more c = search needs
 
 same-length-2 : tie.Need-same-length-2 Inv-loop μ-loop
 same-length-2 c = same (c .before .before .before .before .before .before) ∙ c .before .before .before .before .before .before .before .before .before .loop .inv .1
@@ -62,20 +38,11 @@ fits c =
     let low = l .inv .0 in
     omega arith
 
-add-have : tie.Need-add-have Inv-loop μ-loop
-add-have c = omega (arith, fits (c .before .before))
-
 loop-less : tie.Need-loop-less Inv-loop μ-loop
 loop-less c = let l = c .before .before .before .before .before .before .before .before .before .loop .inv in omega (arith, fits (c .before .before), l .0, l .1)
 
 loop-again : tie.Need-loop-again Inv-loop μ-loop
 loop-again c = let l = c .before .before .before .before .before .before .before .before .before .loop .inv in let n = same (c .before .before .before .before .before .before) in let f = fits (c .before .before) in (omega arith, n ∙ l .1)
-
-same-length-3 : tie.Need-same-length-3 Inv-loop μ-loop
-same-length-3 c = c .before .loop .inv .1
-
-returns-3 : tie.Need-returns-3 Inv-loop μ-loop
-returns-3 c = c .before .loop .inv .0
 
 pub read-input-spec : {M : Type 1} → statement M
 read-input-spec =
@@ -83,19 +50,19 @@ read-input-spec =
     (tie.spec
     Inv-loop
     μ-loop
-    loop-holds
-    sub-read-piece
-    part-read-piece-start
-    part-read-piece-end
-    read-piece-requires
-    enum-told
+    (λ c. (omega arith, refl))
+    (λ c. omega arith)
+    (λ c. search needs)
+    (λ c. search needs)
+    (λ c κs. search needs)
+    (λ c. search needs)
     same-length
-    returns
-    enum-known-more
+    (λ c. omega arith)
+    (λ c. search needs)
     same-length-2
     returns-2
-    add-have
+    (λ c. omega (arith, fits (c .before .before)))
     loop-less
     loop-again
-    same-length-3
-    returns-3)
+    (λ c. c .before .loop .inv .1)
+    (λ c. c .before .loop .inv .0))

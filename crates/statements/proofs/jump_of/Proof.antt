@@ -12,22 +12,16 @@ use borrow.Author.Needs.{needs}
 use Rattle.statements.proofs.jump_of.Statement.{statement}
 use Rattle.statements.proofs.jump_of.Tie as tie
 
-enum-told : tie.Need-enum-told
-enum-told c = search needs
-
-jump-with-requires : tie.Need-jump-with-requires
-jump-with-requires c κs = search needs
-
-returns : tie.Need-returns
-returns c = rw (c .jump-with .ensures, c .before .enum-told .given .1)
-
 others : (u : Use) (code reach : Code) → OneOf (1 ∷ 2 ∷ []) (tagOf the-type u) → Statement.None ≡ jumpOf u code reach
 others Use.Jumps code reach k = absurd (miss (1 ∷ 2 ∷ []) 0 tt k)
 others Use.Registers code reach k = refl
 others Use.Nothing code reach k = refl
 
-returns-2 : tie.Need-returns-2
-returns-2 c = others (c .before .args .u) (c .before .args .code) (c .before .args .reach) (c .match .keys2)
-
 pub jump-of-spec : {M : Type 1} → statement M
-jump-of-spec = tie.close (tie.spec enum-told jump-with-requires returns returns-2)
+jump-of-spec =
+    tie.close
+    (tie.spec
+    (λ c. search needs)
+    (λ c κs. search needs)
+    (λ c. rw (c .jump-with .ensures, c .before .enum-told .given .1))
+    (λ c. others (c .before .args .u) (c .before .args .code) (c .before .args .reach) (c .match .keys2)))

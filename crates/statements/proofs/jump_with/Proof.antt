@@ -6,15 +6,6 @@ use borrow.Author.Needs.{needs}
 use Rattle.statements.proofs.jump_with.Statement.{statement}
 use Rattle.statements.proofs.jump_with.Tie as tie
 
-enum-known-code : tie.Need-enum-known-code
-enum-known-code c = search needs
-
-enum-known-reach : tie.Need-enum-known-reach
-enum-known-reach c = search needs
-
-returns : tie.Need-returns
-returns c = rw (c .before .before .before .before .code .given .1, c .before .reach .given .1)
-
 returns-2 : tie.Need-returns-2
 returns-2 c = let a = c .before .before .before .before .args in rw (c .before .before .code .given .1) (no-byte (a .reach) (λ byte. Statement.Jump _ byte) (c .match2 .keys2))
 
@@ -22,4 +13,11 @@ returns-3 : tie.Need-returns-3
 returns-3 c = let a = c .before .args in no-byte (a .code) (λ q. withCode (a .reach) (λ byte. Statement.Jump q byte)) (c .match .keys2)
 
 pub jump-with-spec : {M : Type 1} → statement M
-jump-with-spec = tie.close (tie.spec enum-known-code enum-known-reach returns returns-2 returns-3)
+jump-with-spec =
+    tie.close
+    (tie.spec
+    (λ c. search needs)
+    (λ c. search needs)
+    (λ c. rw (c .before .before .before .before .code .given .1, c .before .reach .given .1))
+    returns-2
+    returns-3)

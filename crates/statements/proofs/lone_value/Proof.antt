@@ -11,15 +11,6 @@ use borrow.Author.Needs.{needs}
 use Rattle.statements.proofs.lone_value.Statement.{statement}
 use Rattle.statements.proofs.lone_value.Tie as tie
 
-enum-known-x : tie.Need-enum-known-x
-enum-known-x c = search needs
-
-value-in-requires : tie.Need-value-in-requires
-value-in-requires c κs = search needs
-
-returns : tie.Need-returns
-returns c = search needs
-
 others : (x : Operands) → OneOf (0 ∷ 1 ∷ 2 ∷ 3 ∷ 5 ∷ 6 ∷ []) (tagOf the-type x) → MaybeValue.Nothing ≡ loneValue x
 others (Operands.TwoAddresses a b) k = refl
 others (Operands.AddressAndCode a q) k = refl
@@ -29,8 +20,11 @@ others (Operands.Lone e) k = absurd (miss (0 ∷ 1 ∷ 2 ∷ 3 ∷ 5 ∷ 6 ∷ [
 others (Operands.AddressConstants n m e) k = refl
 others Operands.None k = refl
 
-returns-2 : tie.Need-returns-2
-returns-2 c = others (c .before .args .x) (c .match .keys2)
-
 pub lone-value-spec : {M : Type 1} → statement M
-lone-value-spec = tie.close (tie.spec enum-known-x value-in-requires returns returns-2)
+lone-value-spec =
+    tie.close
+    (tie.spec
+    (λ c. search needs)
+    (λ c κs. search needs)
+    (λ c. search needs)
+    (λ c. others (c .before .args .x) (c .match .keys2)))

@@ -6,15 +6,6 @@ use borrow.Author.Needs.{needs}
 use Rattle.statements.proofs.two_of.Statement.{statement}
 use Rattle.statements.proofs.two_of.Tie as tie
 
-enum-known-code : tie.Need-enum-known-code
-enum-known-code c = search needs
-
-enum-known-first : tie.Need-enum-known-first
-enum-known-first c = search needs
-
-enum-known-second : tie.Need-enum-known-second
-enum-known-second c = search needs
-
 returns : tie.Need-returns
 returns c = rw (c .before .before .before .before .before .before .before .code .given .1, c .before .before .before .before .first .given .1, c .before .second .given .1)
 
@@ -31,9 +22,9 @@ pub two-of-spec : {M : Type 1} → statement M
 two-of-spec =
     tie.close
     (tie.spec
-    enum-known-code
-    enum-known-first
-    enum-known-second
+    (λ c. search needs)
+    (λ c. search needs)
+    (λ c. search needs)
     returns
     returns-2
     returns-3

@@ -5,14 +5,10 @@ use borrow.Author.Needs.{needs}
 use Rattle.terms.proofs.appended.Statement.{statement}
 use Rattle.terms.proofs.appended.Tie as tie
 
-mul-result : tie.Need-mul-result
-mul-result c = omega (arith, appended-fits (c .args .value) (c .args .base) (omega arith) (omega arith))
-
-add-result : tie.Need-add-result
-add-result c = omega (arith, appended-fits (c .args .value) (c .args .base) (omega arith) (omega arith))
-
-returns : tie.Need-returns
-returns c = search needs
-
 pub appended-spec : {M : Type 1} → statement M
-appended-spec = tie.close (tie.spec mul-result add-result returns)
+appended-spec =
+    tie.close
+    (tie.spec
+    (λ c. omega (arith, appended-fits (c .args .value) (c .args .base) (omega arith) (omega arith)))
+    (λ c. omega (arith, appended-fits (c .args .value) (c .args .base) (omega arith) (omega arith)))
+    (λ c. search needs))

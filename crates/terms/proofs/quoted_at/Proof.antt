@@ -11,20 +11,11 @@ use borrow.Author.Needs.{needs}
 use Rattle.terms.proofs.quoted_at.Statement.{statement}
 use Rattle.terms.proofs.quoted_at.Tie as tie
 
-byte-at-requires : tie.Need-byte-at-requires
-byte-at-requires c κs = search needs
-
 accepting : (c : tie.After-is-accepted) → c .is-accepted .result ≡ isAccepted (classOf (getD (c .before .before .before .before .before .args .s .now) (c .before .before .before .before .before .args .at) 0))
 accepting c = c .is-accepted .ensures ∙ ap isAccepted (c .before .class-of .ensures ∙ ap classOf (c .before .before .before .byte-at .ensures))
 
 add-byte-at : tie.Need-add-byte-at
 add-byte-at c = omega (arith, inside (c .before .before .before .args .s .now) (c .before .before .before .args .at) (λ z. omega (arith, c .before .byte-at .ensures, c .if1 .taken)))
-
-byte-at-requires-2 : tie.Need-byte-at-requires-2
-byte-at-requires-2 c κs = search needs
-
-code-of-requires : tie.Need-code-of-requires
-code-of-requires c κs = search needs
 
 add-t9 : tie.Need-add-t9
 add-t9 c = omega (arith, inside (c .before .before .before .before .before .before .args .s .now) (c .before .before .before .before .before .before .args .at + 1) (λ z. omega (arith, c .before .before .byte-at2 .ensures, c .before .if2 .taken)))
@@ -39,15 +30,6 @@ add-t6 c = omega (arith, inside (c .before .before .before .before .before .args
 returns-2 : tie.Need-returns-2
 unfolding quotedAt
 returns-2 c = rw (is-byte (c .before .before .before .byte-at .ensures) (c .before .before .if1 .taken), no-byte (c .before .byte-at2 .ensures) (c .if2 .left))
-
-class-of-requires : tie.Need-class-of-requires
-class-of-requires c κs = search needs
-
-is-accepted-requires : tie.Need-is-accepted-requires
-is-accepted-requires c κs = search needs
-
-code-of-requires-2 : tie.Need-code-of-requires-2
-code-of-requires-2 c κs = search needs
 
 add-t14 : tie.Need-add-t14
 add-t14 c = omega (arith, inside-accepted (c .before .before .before .before .before .before .before .args .s .now) (c .before .before .before .before .before .before .before .args .at) (sym (accepting (c .before .before)) ∙ c .before .if3 .taken))
@@ -64,17 +46,17 @@ pub quoted-at-spec : {M : Type 1} → statement M
 quoted-at-spec =
     tie.close
     (tie.spec
-    byte-at-requires
+    (λ c κs. search needs)
     add-byte-at
-    byte-at-requires-2
-    code-of-requires
+    (λ c κs. search needs)
+    (λ c κs. search needs)
     add-t9
     returns
     add-t6
     returns-2
-    class-of-requires
-    is-accepted-requires
-    code-of-requires-2
+    (λ c κs. search needs)
+    (λ c κs. search needs)
+    (λ c κs. search needs)
     add-t14
     returns-3
     returns-4)

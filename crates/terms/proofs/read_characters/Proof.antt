@@ -5,24 +5,6 @@ use borrow.Author.Needs.{needs}
 use Rattle.terms.proofs.read_characters.Statement.{statement}
 use Rattle.terms.proofs.read_characters.Tie as tie
 
-add-quoted-at : tie.Need-add-quoted-at
-add-quoted-at c = search needs
-
-quoted-at-requires : tie.Need-quoted-at-requires
-quoted-at-requires c κs = search needs
-
-enum-known-a : tie.Need-enum-known-a
-enum-known-a c = search needs
-
-read-second-requires : tie.Need-read-second-requires
-read-second-requires c κs = search needs
-
-enum-known-next : tie.Need-enum-known-next
-enum-known-next c = search needs
-
-enum-known-end : tie.Need-enum-known-end
-enum-known-end c = search needs
-
 returns : tie.Need-returns
 unfolding charactersAt
 returns c = rw (sym (c .before .before .before .before .quoted-at .ensures), c .before .before .a .given .1) (c .read-second .ensures)
@@ -39,12 +21,12 @@ pub read-characters-spec : {M : Type 1} → statement M
 read-characters-spec =
     tie.close
     (tie.spec
-    add-quoted-at
-    quoted-at-requires
-    enum-known-a
-    read-second-requires
-    enum-known-next
-    enum-known-end
+    (λ c. search needs)
+    (λ c κs. search needs)
+    (λ c. search needs)
+    (λ c κs. search needs)
+    (λ c. search needs)
+    (λ c. search needs)
     returns
     returns-2
     returns-3)

@@ -6,9 +6,6 @@ use borrow.Author.Needs.{needs}
 use Rattle.terms.proofs.read_closed.Statement.{statement}
 use Rattle.terms.proofs.read_closed.Tie as tie
 
-byte-at-requires : tie.Need-byte-at-requires
-byte-at-requires c κs = search needs
-
 add-t7 : tie.Need-add-t7
 add-t7 c = omega (arith, inside (c .before .before .before .args .s .now) (c .before .before .before .args .at) (λ z. omega (arith, c .before .byte-at .ensures, c .if1 .taken)))
 
@@ -21,4 +18,4 @@ unfolding closedAt
 returns-2 c = rw (no-byte (c .before .byte-at .ensures) (c .if1 .left))
 
 pub read-closed-spec : {M : Type 1} → statement M
-read-closed-spec = tie.close (tie.spec byte-at-requires add-t7 returns returns-2)
+read-closed-spec = tie.close (tie.spec (λ c κs. search needs) add-t7 returns returns-2)

@@ -19,15 +19,6 @@ Inv-loop s at base most value₀ i₀ left₀ value i left = (digitsFrom left ba
 abbrev μ-loop : tie.MeasureT-loop
 μ-loop s at base most value₀ i₀ left₀ value i left = left
 
-loop-holds : tie.Need-loop-holds Inv-loop μ-loop
-loop-holds c = (refl, omega arith)
-
-byte-at-requires : tie.Need-byte-at-requires Inv-loop μ-loop
-byte-at-requires c κs = search needs
-
-digit-of-requires : tie.Need-digit-of-requires Inv-loop μ-loop
-digit-of-requires c κs = search needs
-
 -- the digit that was read, and the value with it
 digit : (c : tie.After-digit-of Inv-loop μ-loop) → c .digit-of .result ≡ digitOf (getD (c .before .before .before .before .before .args .s .now) (c .before .before .before .loop .i) 0)
 digit c = c .digit-of .ensures .0 ∙ ap digitOf (c .before .byte-at .ensures)
@@ -41,20 +32,11 @@ there c = lt-ltb _ _ (rw (digit (c .before)) at (c .if1 .left))
 returns : tie.Need-returns Inv-loop μ-loop
 returns c = (sym (digits-stop (c .before .before .before .before .loop .left) (c .before .before .before .before .before .before .args .base) (c .before .before .before .before .before .before .args .s .now) (c .before .before .before .before .loop .i) (c .before .before .before .before .loop .value) (le-ltb _ _ (rw (digit (c .before)) at (c .if1 .taken)))) ∙ c .before .before .before .before .loop .inv .0, c .before .before .before .before .loop .inv .1)
 
-appended-requires : tie.Need-appended-requires Inv-loop μ-loop
-appended-requires c κs = omega arith
-
 returns-2 : tie.Need-returns-2 Inv-loop μ-loop
 returns-2 c = (sym (digits-over (c .before .before .before .before .before .before .loop .left) (c .before .before .before .before .before .before .before .before .args .base) (c .before .before .before .before .before .before .before .before .args .s .now) (c .before .before .before .before .before .before .loop .i) (c .before .before .before .before .before .before .loop .value) (lt-leb _ _ (rw (more (c .before)) at (c .if2 .taken)))) ∙ c .before .before .before .before .before .before .loop .inv .0, c .before .before .before .before .before .before .loop .inv .1)
 
 add-i : tie.Need-add-i Inv-loop μ-loop
 add-i c = omega (arith, inside-digit (c .before .before .before .before .before .before .before .before .args .s .now) (c .before .before .before .before .before .before .loop .i) (omega (arith, digit (c .before .before .before))))
-
-sub-left : tie.Need-sub-left Inv-loop μ-loop
-sub-left c = omega arith
-
-loop-less : tie.Need-loop-less Inv-loop μ-loop
-loop-less c = omega arith
 
 loop-again : tie.Need-loop-again Inv-loop μ-loop
 loop-again c = let is = more (c .before) in
@@ -69,14 +51,14 @@ read-digits-spec =
     (tie.spec
     Inv-loop
     μ-loop
-    loop-holds
-    byte-at-requires
-    digit-of-requires
+    (λ c. (refl, omega arith))
+    (λ c κs. search needs)
+    (λ c κs. search needs)
     returns
-    appended-requires
+    (λ c κs. omega arith)
     returns-2
     add-i
-    sub-left
-    loop-less
+    (λ c. omega arith)
+    (λ c. omega arith)
     loop-again
     returns-3)

@@ -5,45 +5,21 @@ use borrow.Author.Needs.{needs}
 use Rattle.terms.proofs.read_lettered.Statement.{statement}
 use Rattle.terms.proofs.read_lettered.Tie as tie
 
-byte-at-requires : tie.Need-byte-at-requires
-byte-at-requires c κs = search needs
-
-add-byte-at : tie.Need-add-byte-at
-add-byte-at c = search needs
-
-byte-at-requires-2 : tie.Need-byte-at-requires-2
-byte-at-requires-2 c κs = search needs
-
-read-symbol-requires : tie.Need-read-symbol-requires
-read-symbol-requires c κs = search needs
-
 returns : tie.Need-returns
 unfolding letteredAt
 returns c = rw (no-byte (c .before .before .byte-at2 .ensures) (c .before .if1 .taken)) (c .read-symbol .ensures)
-
-read-hex-requires : tie.Need-read-hex-requires
-read-hex-requires c κs = search needs
 
 returns-2 : tie.Need-returns-2
 unfolding letteredAt
 returns-2 c = rw (is-byte (c .before .before .before .byte-at2 .ensures) (c .before .before .if1 .left), is-byte (c .before .before .before .before .byte-at .ensures) (c .before .if2 .taken)) (c .read-hex .ensures)
 
-read-binary-requires : tie.Need-read-binary-requires
-read-binary-requires c κs = search needs
-
 returns-3 : tie.Need-returns-3
 unfolding letteredAt
 returns-3 c = rw (is-byte (c .before .before .before .before .byte-at2 .ensures) (c .before .before .before .if1 .left), no-byte (c .before .before .before .before .before .byte-at .ensures) (c .before .before .if2 .left), is-byte (c .before .before .before .before .before .byte-at .ensures) (c .before .if3 .taken)) (c .read-binary .ensures)
 
-read-characters-requires : tie.Need-read-characters-requires
-read-characters-requires c κs = search needs
-
 returns-4 : tie.Need-returns-4
 unfolding letteredAt
 returns-4 c = rw (is-byte (c .before .before .before .before .before .byte-at2 .ensures) (c .before .before .before .before .if1 .left), no-byte (c .before .before .before .before .before .before .byte-at .ensures) (c .before .before .before .if2 .left), no-byte (c .before .before .before .before .before .before .byte-at .ensures) (c .before .before .if3 .left), is-byte (c .before .before .before .before .before .before .byte-at .ensures) (c .before .if4 .taken)) (c .read-characters .ensures)
-
-read-symbol-requires-2 : tie.Need-read-symbol-requires-2
-read-symbol-requires-2 c κs = search needs
 
 returns-5 : tie.Need-returns-5
 unfolding letteredAt
@@ -53,16 +29,16 @@ pub read-lettered-spec : {M : Type 1} → statement M
 read-lettered-spec =
     tie.close
     (tie.spec
-    byte-at-requires
-    add-byte-at
-    byte-at-requires-2
-    read-symbol-requires
+    (λ c κs. search needs)
+    (λ c. search needs)
+    (λ c κs. search needs)
+    (λ c κs. search needs)
     returns
-    read-hex-requires
+    (λ c κs. search needs)
     returns-2
-    read-binary-requires
+    (λ c κs. search needs)
     returns-3
-    read-characters-requires
+    (λ c κs. search needs)
     returns-4
-    read-symbol-requires-2
+    (λ c κs. search needs)
     returns-5)

@@ -6,18 +6,9 @@ use borrow.Author.Needs.{needs}
 use Rattle.terms.proofs.read_numeral.Statement.{statement}
 use Rattle.terms.proofs.read_numeral.Tie as tie
 
-read-digits-requires : tie.Need-read-digits-requires
-read-digits-requires c κs = search needs
-
 returns : tie.Need-returns
 unfolding numeralAt
 returns c = rw (sym (c .before .read-digits .ensures .0), eq-eqb _ _ (c .if1 .taken))
-
-cast-read-closed : tie.Need-cast-read-closed
-cast-read-closed c = search needs
-
-read-closed-requires : tie.Need-read-closed-requires
-read-closed-requires c κs = search needs
 
 returns-2 : tie.Need-returns-2
 unfolding numeralAt
@@ -26,4 +17,4 @@ returns-2 c = rw (sym (c .before .before .before .read-digits .ensures .0), ne-e
 pub read-numeral-spec : {M : Type 1} → statement M
 read-numeral-spec =
     tie.close
-    (tie.spec read-digits-requires returns cast-read-closed read-closed-requires returns-2)
+    (tie.spec (λ c κs. search needs) returns (λ c. search needs) (λ c κs. search needs) returns-2)

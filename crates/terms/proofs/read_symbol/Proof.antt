@@ -5,15 +5,6 @@ use borrow.Author.Needs.{needs}
 use Rattle.terms.proofs.read_symbol.Statement.{statement}
 use Rattle.terms.proofs.read_symbol.Tie as tie
 
-read-name-requires : tie.Need-read-name-requires
-read-name-requires c κs = search needs
-
-enum-known-number : tie.Need-enum-known-number
-enum-known-number c = search needs
-
-enum-known-end : tie.Need-enum-known-end
-enum-known-end c = search needs
-
 returns : tie.Need-returns
 unfolding symbolAt
 returns c = rw (sym (c .before .before .before .read-name .ensures), c .before .number .given .1)
@@ -24,4 +15,5 @@ returns-2 c = rw (sym (c .before .before .before .read-name .ensures), c .before
 
 pub read-symbol-spec : {M : Type 1} → statement M
 read-symbol-spec =
-    tie.close (tie.spec read-name-requires enum-known-number enum-known-end returns returns-2)
+    tie.close
+    (tie.spec (λ c κs. search needs) (λ c. search needs) (λ c. search needs) returns returns-2)

@@ -9,38 +9,14 @@ use borrow.Author.Needs.{needs}
 use Rattle.terms.proofs.read_term.Statement.{statement}
 use Rattle.terms.proofs.read_term.Tie as tie
 
-byte-at-requires : tie.Need-byte-at-requires
-byte-at-requires c κs = search needs
-
-class-of-requires : tie.Need-class-of-requires
-class-of-requires c κs = search needs
-
-enum-told : tie.Need-enum-told
-enum-told c = search needs
-
 class : (c : tie.After-class-of) → c .class-of .result ≡ classOf (getD (c .before .before .before .args .s .now) (c .before .before .before .args .at) 0)
 class c = c .class-of .ensures ∙ ap classOf (c .before .byte-at .ensures)
 
 read-lettered-requires : tie.Need-read-lettered-requires
 read-lettered-requires c κs = omega (arith, inside-accepted (c .before .before .before .before .before .args .s .now) (c .before .before .before .before .before .args .at) (ap isAccepted (sym (class (c .before .before)) ∙ c .enum-told .given .1)))
 
-enum-told-2 : tie.Need-enum-told-2
-enum-told-2 c = search needs
-
-read-decimal-requires : tie.Need-read-decimal-requires
-read-decimal-requires c κs = search needs
-
-enum-told-3 : tie.Need-enum-told-3
-enum-told-3 c = search needs
-
 add-t8 : tie.Need-add-t8
 add-t8 c = omega (arith, inside-accepted (c .before .before .before .before .before .before .args .s .now) (c .before .before .before .before .before .before .args .at) (ap isAccepted (sym (class (c .before .before .before)) ∙ c .before .enum-told3 .given .1)))
-
-enum-told-4 : tie.Need-enum-told-4
-enum-told-4 c = search needs
-
-enum-told-5 : tie.Need-enum-told-5
-enum-told-5 c = search needs
 
 returns : tie.Need-returns
 unfolding termAt
@@ -70,16 +46,16 @@ pub read-term-spec : {M : Type 1} → statement M
 read-term-spec =
     tie.close
     (tie.spec
-    byte-at-requires
-    class-of-requires
-    enum-told
+    (λ c κs. search needs)
+    (λ c κs. search needs)
+    (λ c. search needs)
     read-lettered-requires
-    enum-told-2
-    read-decimal-requires
-    enum-told-3
+    (λ c. search needs)
+    (λ c κs. search needs)
+    (λ c. search needs)
     add-t8
-    enum-told-4
-    enum-told-5
+    (λ c. search needs)
+    (λ c. search needs)
     returns
     returns-2
     returns-3

@@ -11,24 +11,6 @@ use borrow.Author.Needs.{needs}
 use Rattle.book.proofs.writing.put_header.Statement.{statement}
 use Rattle.book.proofs.writing.put_header.Tie as tie
 
-sub-rest : tie.Need-sub-rest
-sub-rest c = search needs
-
-cast-put-word : tie.Need-cast-put-word
-cast-put-word c = search needs
-
-put-word-requires : tie.Need-put-word-requires
-put-word-requires c κs = search needs
-
-cast-put-word-2 : tie.Need-cast-put-word-2
-cast-put-word-2 c = search needs
-
-put-word-requires-2 : tie.Need-put-word-requires-2
-put-word-requires-2 c κs = search needs
-
-slice-write-m : tie.Need-slice-write-m
-slice-write-m c = search needs
-
 put-entry-requires : tie.Need-put-entry-requires
 put-entry-requires c κs = let x = c .before .before .before .put-word2 .kept .0 in let y = c .before .before .before .before .before .before .before .put-word .kept .0 in simp length-set (omega arith)
 
@@ -46,12 +28,12 @@ pub put-header-spec : {M : Type 1} → statement M
 put-header-spec =
     tie.close
     (tie.spec
-    sub-rest
-    cast-put-word
-    put-word-requires
-    cast-put-word-2
-    put-word-requires-2
-    slice-write-m
+    (λ c. search needs)
+    (λ c. search needs)
+    (λ c κs. search needs)
+    (λ c. search needs)
+    (λ c κs. search needs)
+    (λ c. search needs)
     put-entry-requires
     same-length
     returns)

@@ -7,20 +7,15 @@ use borrow.Author.Needs.{needs}
 use Rattle.cards.proofs.source.card_at.Statement.{statement}
 use Rattle.cards.proofs.source.card_at.Tie as tie
 
-add-end : tie.Need-add-end
-add-end c = search needs
-
-sub-result : tie.Need-sub-result
-sub-result c = search needs
-
-part-result-start : tie.Need-part-result-start
-part-result-start c = search needs
-
-part-result-end : tie.Need-part-result-end
-part-result-end c = search needs
-
 returns : tie.Need-returns
 returns c = let e : c .before .args .at + c .before .args .columns - c .before .args .at ≡ c .before .args .columns = omega arith in ap (λ k. take k (drop (c .before .args .at) (c .before .args .source .now))) e
 
 pub card-at-spec : {M : Type 1} → statement M
-card-at-spec = tie.close (tie.spec add-end sub-result part-result-start part-result-end returns)
+card-at-spec =
+    tie.close
+    (tie.spec
+    (λ c. search needs)
+    (λ c. search needs)
+    (λ c. search needs)
+    (λ c. search needs)
+    returns)

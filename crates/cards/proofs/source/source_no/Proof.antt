@@ -19,14 +19,8 @@ width-80 width size e = ap (λ w. sourceNo w size) e ∙ at-width 80 size refl
 width-96 : (width size : ℕ) → width ≡ 96 → sourceNo width size ≡ wholeNo (size % 96) (size / 96)
 width-96 width size e = ap (λ w. sourceNo w size) e ∙ at-width 96 size refl
 
-whole-no-requires : tie.Need-whole-no-requires
-whole-no-requires c κs = search needs
-
 returns : tie.Need-returns
 returns c = c .whole-no .ensures ∙ sym (width-80 (c .before .before .args .width) (c .before .before .args .size) (c .before .if1 .taken))
-
-whole-no-requires-2 : tie.Need-whole-no-requires-2
-whole-no-requires-2 c κs = search needs
 
 returns-2 : tie.Need-returns-2
 returns-2 c = c .whole-no2 .ensures ∙ sym (width-96 (c .before .before .before .args .width) (c .before .before .before .args .size) (c .before .if2 .taken))
@@ -37,4 +31,4 @@ returns-3 c = rw (ne-eqb _ _ (c .before .if1 .left), ne-eqb _ _ (c .if2 .left))
 
 pub source-no-spec : {M : Type 1} → statement M
 source-no-spec =
-    tie.close (tie.spec whole-no-requires returns whole-no-requires-2 returns-2 returns-3)
+    tie.close (tie.spec (λ c κs. search needs) returns (λ c κs. search needs) returns-2 returns-3)

@@ -5,9 +5,6 @@ use Rattle.data.specs.Form.{copiesBefore}
 use Rattle.data.proofs.head.copies_before.Statement.{statement}
 use Rattle.data.proofs.head.copies_before.Tie as tie
 
-number-in-requires : tie.Need-number-in-requires
-number-in-requires c κs = search needs
-
 returns : tie.Need-returns
 unfolding copiesBefore
 returns c = rw (eq-eqb _ _ (c .if1 .taken))
@@ -17,4 +14,4 @@ unfolding copiesBefore
 returns-2 c = rw (ne-eqb _ _ (c .before .if1 .left)) (c .number-in .ensures)
 
 pub copies-before-spec : {M : Type 1} → statement M
-copies-before-spec = tie.close (tie.spec number-in-requires returns returns-2)
+copies-before-spec = tie.close (tie.spec (λ c κs. search needs) returns returns-2)

@@ -8,33 +8,12 @@ use Rattle.data.proofs.Within.{type-inside}
 use Rattle.data.proofs.head.read_head.Statement.{statement}
 use Rattle.data.proofs.head.read_head.Tie as tie
 
-digits-end-requires : tie.Need-digits-end-requires
-digits-end-requires c κs = search needs
-
-byte-at-requires : tie.Need-byte-at-requires
-byte-at-requires c κs = search needs
-
-type-of-requires : tie.Need-type-of-requires
-type-of-requires c κs = search needs
-
-enum-known-kind : tie.Need-enum-known-kind
-enum-known-kind c = search needs
-
-copies-before-requires : tie.Need-copies-before-requires
-copies-before-requires c κs = search needs
-
 -- the type that was read
 typed : (c : tie.After-type-of) → c .type-of .result ≡ typeOf (getD (c .before .before .before .before .args .s .now) (c .before .before .digits-end .result) 0)
 typed c = c .type-of .ensures ∙ ap typeOf (c .before .byte-at .ensures)
 
 add-read-length : tie.Need-add-read-length
 add-read-length c = omega (arith, type-inside (c .before .before .before .before .before .before .before .before .args .s .now) (c .before .before .before .before .before .before .digits-end .result) (c .before .before .kind .given .0 .0) (sym (typed (c .before .before .before .before)) ∙ c .before .before .kind .given .1))
-
-read-length-requires : tie.Need-read-length-requires
-read-length-requires c κs = search needs
-
-enum-told : tie.Need-enum-told
-enum-told c = search needs
 
 returns : tie.Need-returns
 unfolding headAt
@@ -48,13 +27,13 @@ pub read-head-spec : {M : Type 1} → statement M
 read-head-spec =
     tie.close
     (tie.spec
-    digits-end-requires
-    byte-at-requires
-    type-of-requires
-    enum-known-kind
-    copies-before-requires
+    (λ c κs. search needs)
+    (λ c κs. search needs)
+    (λ c κs. search needs)
+    (λ c. search needs)
+    (λ c κs. search needs)
     add-read-length
-    read-length-requires
-    enum-told
+    (λ c κs. search needs)
+    (λ c. search needs)
     returns
     returns-2)

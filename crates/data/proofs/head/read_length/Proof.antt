@@ -10,9 +10,6 @@ use Rattle.data.specs.Form.{lengthAt}
 use Rattle.data.proofs.head.read_length.Statement.{statement}
 use Rattle.data.proofs.head.read_length.Tie as tie
 
-byte-at-requires : tie.Need-byte-at-requires
-byte-at-requires c κs = search needs
-
 returns : tie.Need-returns
 unfolding lengthAt
 returns c = rw (no-byte (c .before .byte-at .ensures) (c .if1 .taken))
@@ -20,15 +17,9 @@ returns c = rw (no-byte (c .before .byte-at .ensures) (c .if1 .taken))
 add-from : tie.Need-add-from
 add-from c = omega (arith, stands-inside 76 (c .before .before .before .args .s .now) (c .before .before .before .args .at) (omega arith) (is-byte (c .before .byte-at .ensures) (c .if1 .left)))
 
-digits-end-requires : tie.Need-digits-end-requires
-digits-end-requires c κs = search needs
-
 returns-2 : tie.Need-returns-2
 unfolding lengthAt
 returns-2 c = rw (is-byte (c .before .before .before .byte-at .ensures) (c .before .before .if1 .left), sym (c .before .digits-end .ensures), eq-eqb _ _ (c .if2 .taken))
-
-number-in-requires : tie.Need-number-in-requires
-number-in-requires c κs = search needs
 
 returns-3 : tie.Need-returns-3
 unfolding lengthAt
@@ -38,10 +29,10 @@ pub read-length-spec : {M : Type 1} → statement M
 read-length-spec =
     tie.close
     (tie.spec
-    byte-at-requires
+    (λ c κs. search needs)
     returns
     add-from
-    digits-end-requires
+    (λ c κs. search needs)
     returns-2
-    number-in-requires
+    (λ c κs. search needs)
     returns-3)

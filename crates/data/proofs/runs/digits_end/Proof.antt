@@ -25,12 +25,6 @@ loop-holds : tie.Need-loop-holds Inv-loop μ-loop
 unfolding digitsEnd
 loop-holds c = (length (c .before .args .s .now), omega arith, refl)
 
-byte-at-requires : tie.Need-byte-at-requires Inv-loop μ-loop
-byte-at-requires c κs = search needs
-
-digit-of-requires : tie.Need-digit-of-requires Inv-loop μ-loop
-digit-of-requires c κs = search needs
-
 -- the digit that was read
 digit : (c : tie.After-digit-of Inv-loop μ-loop) → c .digit-of .result ≡ digitOf (getD (c .before .before .before .before .args .s .now) (c .before .before .loop .i) 0)
 digit c = c .digit-of .ensures .0 ∙ ap digitOf (c .before .byte-at .ensures)
@@ -57,8 +51,8 @@ digits-end-spec =
     Inv-loop
     μ-loop
     loop-holds
-    byte-at-requires
-    digit-of-requires
+    (λ c κs. search needs)
+    (λ c κs. search needs)
     add-i
     loop-less
     loop-again

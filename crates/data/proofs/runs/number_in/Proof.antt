@@ -16,27 +16,9 @@ Inv-loop s at end v₀ i₀ v i = (v ≤ 65536) × (told (numberFrom (end - i) s
 abbrev μ-loop : tie.MeasureT-loop
 μ-loop s at end v₀ i₀ v i = end - i
 
-loop-holds : tie.Need-loop-holds Inv-loop μ-loop
-loop-holds c = (omega arith, refl)
-
-byte-at-requires : tie.Need-byte-at-requires Inv-loop μ-loop
-byte-at-requires c κs = search needs
-
-digit-of-requires : tie.Need-digit-of-requires Inv-loop μ-loop
-digit-of-requires c κs = search needs
-
-append-digit-requires : tie.Need-append-digit-requires Inv-loop μ-loop
-append-digit-requires c κs = omega arith
-
 -- the number with the digit that was read
 more : (c : tie.After-append-digit Inv-loop μ-loop) → c .append-digit .result ≡ told (withDigit 10 (c .before .before .before .before .before .before .args .s .now) (c .before .before .before .before .loop .i) (c .before .before .before .before .loop .v))
 more c = c .append-digit .ensures ∙ ap (λ d. told (c .before .before .before .before .loop .v * 10 + d)) (c .before .digit-of .ensures .0 ∙ ap digitOf (c .before .before .byte-at .ensures))
-
-add-i : tie.Need-add-i Inv-loop μ-loop
-add-i c = omega arith
-
-loop-less : tie.Need-loop-less Inv-loop μ-loop
-loop-less c = omega arith
 
 loop-again : tie.Need-loop-again Inv-loop μ-loop
 loop-again c = let m = more c in (rw m (told-fits (withDigit 10 (c .before .before .before .before .before .before .args .s .now) (c .before .before .before .before .loop .i) (c .before .before .before .before .loop .v))), number-more (c .before .before .before .before .before .before .args .end) (c .before .before .before .before .before .before .args .s .now) (c .before .before .before .before .loop .i) (c .before .before .before .before .loop .v) (c .append-digit .result) (c .before .before .before .loop-test .taken) m ∙ c .before .before .before .before .loop .inv .1)
@@ -50,11 +32,11 @@ number-in-spec =
     (tie.spec
     Inv-loop
     μ-loop
-    loop-holds
-    byte-at-requires
-    digit-of-requires
-    append-digit-requires
-    add-i
-    loop-less
+    (λ c. (omega arith, refl))
+    (λ c κs. search needs)
+    (λ c κs. search needs)
+    (λ c κs. omega arith)
+    (λ c. omega arith)
+    (λ c. omega arith)
     loop-again
     returns)

@@ -5,9 +5,6 @@ use Rattle.data.specs.Runs.{told}
 use Rattle.data.proofs.runs.tell.Statement.{statement}
 use Rattle.data.proofs.runs.tell.Tie as tie
 
-cast-result : tie.Need-cast-result
-cast-result c = search needs
-
 returns : tie.Need-returns
 unfolding told
 returns c = omega arith
@@ -17,4 +14,4 @@ unfolding told
 returns-2 c = omega arith
 
 pub tell-spec : {M : Type 1} → statement M
-tell-spec = tie.close (tie.spec cast-result returns returns-2)
+tell-spec = tie.close (tie.spec (λ c. search needs) returns returns-2)

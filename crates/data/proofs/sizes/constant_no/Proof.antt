@@ -6,9 +6,6 @@ use Rattle.data.specs.Sizes.{constantNo}
 use Rattle.data.proofs.sizes.constant_no.Statement.{statement}
 use Rattle.data.proofs.sizes.constant_no.Tie as tie
 
-length-fits-requires : tie.Need-length-fits-requires
-length-fits-requires c κs = search needs
-
 returns : tie.Need-returns
 unfolding constantNo
 returns c = rw (sym (c .before .length-fits .ensures) ∙ not-true _ (c .if1 .taken))
@@ -17,15 +14,9 @@ returns-2 : tie.Need-returns-2
 unfolding constantNo
 returns-2 c = rw (sym (c .before .before .before .length-fits .ensures) ∙ not-false _ (c .before .before .if1 .left), lt-ltb _ _ (c .if2 .taken))
 
-bytes-needed-requires : tie.Need-bytes-needed-requires
-bytes-needed-requires c κs = search needs
-
 returns-3 : tie.Need-returns-3
 unfolding constantNo
 returns-3 c = rw (sym (c .before .before .before .before .before .before .length-fits .ensures) ∙ not-false _ (c .before .before .before .before .before .if1 .left), le-ltb _ _ (c .before .before .before .if2 .left), lt-ltb _ _ (rw (c .before .before .bytes-needed .ensures) at (c .if3 .taken)))
-
-data-size-requires : tie.Need-data-size-requires
-data-size-requires c κs = search needs
 
 returns-4 : tie.Need-returns-4
 unfolding constantNo
@@ -39,11 +30,11 @@ pub constant-no-spec : {M : Type 1} → statement M
 constant-no-spec =
     tie.close
     (tie.spec
-    length-fits-requires
+    (λ c κs. search needs)
     returns
     returns-2
-    bytes-needed-requires
+    (λ c κs. search needs)
     returns-3
-    data-size-requires
+    (λ c κs. search needs)
     returns-4
     returns-5)

@@ -5,18 +5,6 @@ use borrow.Author.Needs.{needs}
 use Rattle.data.proofs.sizes.data_no.Statement.{statement}
 use Rattle.data.proofs.sizes.data_no.Tie as tie
 
-enum-told : tie.Need-enum-told
-enum-told c = search needs
-
-constant-no-requires : tie.Need-constant-no-requires
-constant-no-requires c κs = search needs
-
-enum-told-2 : tie.Need-enum-told-2
-enum-told-2 c = search needs
-
-reserve-no-requires : tie.Need-reserve-no-requires
-reserve-no-requires c κs = search needs
-
 returns : tie.Need-returns
 returns c = c .constant-no .ensures ∙ ap (λ k. dataNoBy k (c .before .before .before .args .d)) (sym (c .before .enum-told .given .1))
 
@@ -26,4 +14,10 @@ returns-2 c = c .reserve-no .ensures ∙ ap (λ k. dataNoBy k (c .before .before
 pub data-no-spec : {M : Type 1} → statement M
 data-no-spec =
     tie.close
-    (tie.spec enum-told constant-no-requires enum-told-2 reserve-no-requires returns returns-2)
+    (tie.spec
+    (λ c. search needs)
+    (λ c κs. search needs)
+    (λ c. search needs)
+    (λ c κs. search needs)
+    returns
+    returns-2)

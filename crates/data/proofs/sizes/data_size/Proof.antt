@@ -8,12 +8,6 @@ use Rattle.data.proofs.Fine.{size-fits}
 use Rattle.data.proofs.sizes.data_size.Statement.{statement}
 use Rattle.data.proofs.sizes.data_size.Tie as tie
 
-cast-result : tie.Need-cast-result
-cast-result c = search needs
-
-cast-result-2 : tie.Need-cast-result-2
-cast-result-2 c = search needs
-
 mul-result : tie.Need-mul-result
 mul-result c = omega (arith, size-fits (c .before .before .args .d .copies) (c .before .before .args .d .length) (omega arith) (omega arith))
 
@@ -22,4 +16,4 @@ unfolding dataSize
 returns c = refl
 
 pub data-size-spec : {M : Type 1} → statement M
-data-size-spec = tie.close (tie.spec cast-result cast-result-2 mul-result returns)
+data-size-spec = tie.close (tie.spec (λ c. search needs) (λ c. search needs) mul-result returns)

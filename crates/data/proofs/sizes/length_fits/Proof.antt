@@ -10,12 +10,9 @@ returns : tie.Need-returns
 unfolding lengthFits
 returns c = rw (lt-leb _ _ (c .if1 .taken))
 
-longest-of-requires : tie.Need-longest-of-requires
-longest-of-requires c κs = search needs
-
 returns-2 : tie.Need-returns-2
 unfolding lengthFits
 returns-2 c = rw (le-leb _ _ (c .before .before .if1 .left), sym (c .before .longest-of .ensures))
 
 pub length-fits-spec : {M : Type 1} → statement M
-length-fits-spec = tie.close (tie.spec returns longest-of-requires returns-2)
+length-fits-spec = tie.close (tie.spec returns (λ c κs. search needs) returns-2)

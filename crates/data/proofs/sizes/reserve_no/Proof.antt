@@ -6,9 +6,6 @@ use Rattle.data.specs.Sizes.{reserveNo}
 use Rattle.data.proofs.sizes.reserve_no.Statement.{statement}
 use Rattle.data.proofs.sizes.reserve_no.Tie as tie
 
-length-fits-requires : tie.Need-length-fits-requires
-length-fits-requires c κs = search needs
-
 returns : tie.Need-returns
 unfolding reserveNo
 returns c = rw (sym (c .before .length-fits .ensures) ∙ not-true _ (c .if1 .taken))
@@ -22,4 +19,4 @@ unfolding reserveNo
 returns-3 c = rw (sym (c .before .before .before .length-fits .ensures) ∙ not-false _ (c .before .before .if1 .left), le-ltb _ _ (c .if2 .left))
 
 pub reserve-no-spec : {M : Type 1} → statement M
-reserve-no-spec = tie.close (tie.spec length-fits-requires returns returns-2 returns-3)
+reserve-no-spec = tie.close (tie.spec (λ c κs. search needs) returns returns-2 returns-3)

@@ -7,14 +7,8 @@ use Prim.Native.Nat.{_%_}
 use Rattle.data.proofs.text.hex_at.Statement.{statement}
 use Rattle.data.proofs.text.hex_at.Tie as tie
 
-byte-at-requires : tie.Need-byte-at-requires
-byte-at-requires c κs = search needs
-
-digit-of-requires : tie.Need-digit-of-requires
-digit-of-requires c κs = search needs
-
 returns : tie.Need-returns
 returns c = (ap (λ d. d % 16) (c .digit-of .ensures .0 ∙ ap digitOf (c .before .byte-at .ensures)), omega arith)
 
 pub hex-at-spec : {M : Type 1} → statement M
-hex-at-spec = tie.close (tie.spec byte-at-requires digit-of-requires returns)
+hex-at-spec = tie.close (tie.spec (λ c κs. search needs) (λ c κs. search needs) returns)

@@ -17,35 +17,8 @@ Inv-loop o at n m₀ to p₀ i₀ m p i = (i ≤ n) × (length m ≡ length m₀
 abbrev μ-loop : tie.MeasureT-loop
 μ-loop o at n m₀ to p₀ i₀ m p i = n - i
 
-loop-holds : tie.Need-loop-holds Inv-loop μ-loop
-loop-holds c = (omega arith, refl, rw (add-zero, sub-zero))
-
-quoted-at-requires : tie.Need-quoted-at-requires Inv-loop μ-loop
-quoted-at-requires c κs = search needs
-
-code-in-requires : tie.Need-code-in-requires Inv-loop μ-loop
-code-in-requires c κs = search needs
-
-next-in-requires : tie.Need-next-in-requires Inv-loop μ-loop
-next-in-requires c κs = search needs
-
-add-m : tie.Need-add-m Inv-loop μ-loop
-add-m c = omega arith
-
-slice-write-m : tie.Need-slice-write-m Inv-loop μ-loop
-slice-write-m c = omega arith
-
-add-i : tie.Need-add-i Inv-loop μ-loop
-add-i c = omega arith
-
-loop-less : tie.Need-loop-less Inv-loop μ-loop
-loop-less c = omega arith
-
 loop-again : tie.Need-loop-again Inv-loop μ-loop
 loop-again c = (omega arith, simp length-set (c .before .before .before .before .loop .inv .1), c .before .before .before .before .loop .inv .2 ∙ store-more (c .before .before .before .before .loop .m) (c .before .before .before .before .before .before .before .args .to) (c .before .before .before .before .loop .i) (c .before .code-in .result) (codesFrom (c .before .before .before .before .before .before .before .args .n - c .before .before .before .before .loop .i) (c .before .before .before .before .before .before .before .args .o .now) (c .before .before .before .before .loop .p)) (codesFrom (c .before .before .before .before .before .before .before .args .n - (c .before .before .before .before .loop .i + 1)) (c .before .before .before .before .before .before .before .args .o .now) (c .next-in .result)) (rw (c .before .code-in .ensures, c .next-in .ensures, c .before .before .quoted-at .ensures) (codes-more (c .before .before .before .before .before .before .before .args .n) (c .before .before .before .before .loop .i) (c .before .before .before .before .before .before .before .args .o .now) (c .before .before .before .before .loop .p) (c .before .before .before .loop-test .taken))))
-
-same-length : tie.Need-same-length Inv-loop μ-loop
-same-length c = c .before .loop .inv .1
 
 returns : tie.Need-returns Inv-loop μ-loop
 returns c = sym (c .before .loop .inv .2 ∙ codes-done (c .before .loop .m) (c .before .before .before .before .args .to + c .before .loop .i) (c .before .before .before .before .args .n) (c .before .loop .i) (c .before .before .before .before .args .o .now) (c .before .loop .p) (omega arith))
@@ -56,14 +29,14 @@ put-codes-spec =
     (tie.spec
     Inv-loop
     μ-loop
-    loop-holds
-    quoted-at-requires
-    code-in-requires
-    next-in-requires
-    add-m
-    slice-write-m
-    add-i
-    loop-less
+    (λ c. (omega arith, refl, rw (add-zero, sub-zero)))
+    (λ c κs. search needs)
+    (λ c κs. search needs)
+    (λ c κs. search needs)
+    (λ c. omega arith)
+    (λ c. omega arith)
+    (λ c. omega arith)
+    (λ c. omega arith)
     loop-again
-    same-length
+    (λ c. c .before .loop .inv .1)
     returns)

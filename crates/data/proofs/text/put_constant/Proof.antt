@@ -17,9 +17,6 @@ Inv-loop o d m₀ to size left₀ at₀ m left at = (at + left * d .length ≤ l
 abbrev μ-loop : tie.MeasureT-loop
 μ-loop o d m₀ to size left₀ at₀ m left at = left
 
-cast-size : tie.Need-cast-size Inv-loop μ-loop
-cast-size c = omega arith
-
 loop-holds : tie.Need-loop-holds Inv-loop μ-loop
 unfolding constantText dataSize
 loop-holds c = (c .before .before .before .pre .2, refl, refl)
@@ -30,18 +27,9 @@ put-copy-requires c κs = let f = constant-fine (c .before .before .before .befo
 add-at : tie.Need-add-at Inv-loop μ-loop
 add-at c = let f = constant-fine (c .before .before .before .before .before .before .before .before .before .args .d) (c .before .before .before .before .before .before .before .before .before .pre .0) in let w = product-more (c .before .before .before .before .before .loop .left) (c .before .before .before .before .before .before .before .before .before .args .d .length) (c .before .before .before .before .loop-test .taken) in omega arith
 
-sub-left : tie.Need-sub-left Inv-loop μ-loop
-sub-left c = omega arith
-
-loop-less : tie.Need-loop-less Inv-loop μ-loop
-loop-less c = omega arith
-
 loop-again : tie.Need-loop-again Inv-loop μ-loop
 loop-again c = let f = constant-fine (c .before .before .before .before .before .before .before .before .before .args .d) (c .before .before .before .before .before .before .before .before .before .pre .0) in let w = product-more (c .before .before .before .before .before .loop .left) (c .before .before .before .before .before .before .before .before .before .args .d .length) (c .before .before .before .before .loop-test .taken) in
     (omega arith, c .before .before .put-copy .kept .1 .1 .0 ∙ c .before .before .before .before .before .loop .inv .1, c .before .before .before .before .before .loop .inv .2 ∙ copies-more (c .before .before .before .before .before .loop .m) (c .before .before .put-copy .last .1 .1 .0) (c .before .before .before .before .before .loop .at) (c .before .before .before .before .before .loop .left) (c .before .before .before .before .before .before .before .before .before .args .d .length) (copyText (c .before .before .before .before .before .before .before .before .before .args .o .now) (c .before .before .before .before .before .before .before .before .before .args .d)) (c .before .before .before .before .loop-test .taken) (c .before .before .put-copy .ensures) (copy-length (c .before .before .before .before .before .before .before .before .before .args .o .now) (c .before .before .before .before .before .before .before .before .before .args .d) (f .room)))
-
-same-length : tie.Need-same-length Inv-loop μ-loop
-same-length c = c .before .loop .inv .1
 
 returns : tie.Need-returns Inv-loop μ-loop
 returns c = sym (c .before .loop .inv .2 ∙ copies-done (c .before .loop .m) (c .before .loop .at) (c .before .loop .left) (copyText (c .before .before .before .before .before .args .o .now) (c .before .before .before .before .before .args .d)) (omega arith))
@@ -52,12 +40,12 @@ put-constant-spec =
     (tie.spec
     Inv-loop
     μ-loop
-    cast-size
+    (λ c. omega arith)
     loop-holds
     put-copy-requires
     add-at
-    sub-left
-    loop-less
+    (λ c. omega arith)
+    (λ c. omega arith)
     loop-again
-    same-length
+    (λ c. c .before .loop .inv .1)
     returns)

@@ -15,26 +15,8 @@ Inv-loop m₀ to n b i₀ m i = (i ≤ n) × (length m ≡ length m₀) × (sets
 abbrev μ-loop : tie.MeasureT-loop
 μ-loop m₀ to n b i₀ m i = n - i
 
-loop-holds : tie.Need-loop-holds Inv-loop μ-loop
-loop-holds c = (omega arith, refl, rw (add-zero, sub-zero))
-
-add-m : tie.Need-add-m Inv-loop μ-loop
-add-m c = omega arith
-
-slice-write-m : tie.Need-slice-write-m Inv-loop μ-loop
-slice-write-m c = omega arith
-
-add-i : tie.Need-add-i Inv-loop μ-loop
-add-i c = omega arith
-
-loop-less : tie.Need-loop-less Inv-loop μ-loop
-loop-less c = omega arith
-
 loop-again : tie.Need-loop-again Inv-loop μ-loop
 loop-again c = (omega arith, simp length-set (c .before .loop .inv .1), c .before .loop .inv .2 ∙ store-more (c .before .loop .m) (c .before .before .args .to) (c .before .loop .i) (c .before .before .args .b) (replicate (c .before .before .args .n - c .before .loop .i) (c .before .before .args .b)) (replicate (c .before .before .args .n - (c .before .loop .i + 1)) (c .before .before .args .b)) (fill-more (c .before .before .args .n) (c .before .loop .i) (c .before .before .args .b) (c .loop-test .taken)))
-
-same-length : tie.Need-same-length Inv-loop μ-loop
-same-length c = c .before .loop .inv .1
 
 returns : tie.Need-returns Inv-loop μ-loop
 returns c = sym (c .before .loop .inv .2 ∙ fill-done (c .before .loop .m) (c .before .before .args .to + c .before .loop .i) (c .before .before .args .n) (c .before .loop .i) (c .before .before .args .b) (omega arith))
@@ -45,11 +27,11 @@ put-fill-spec =
     (tie.spec
     Inv-loop
     μ-loop
-    loop-holds
-    add-m
-    slice-write-m
-    add-i
-    loop-less
+    (λ c. (omega arith, refl, rw (add-zero, sub-zero)))
+    (λ c. omega arith)
+    (λ c. omega arith)
+    (λ c. omega arith)
+    (λ c. omega arith)
     loop-again
-    same-length
+    (λ c. c .before .loop .inv .1)
     returns)

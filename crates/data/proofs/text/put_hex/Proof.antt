@@ -9,27 +9,6 @@ use Rattle.data.proofs.Texts.{odd-hex}
 use Rattle.data.proofs.text.put_hex.Statement.{statement}
 use Rattle.data.proofs.text.put_hex.Tie as tie
 
-put-pairs-requires : tie.Need-put-pairs-requires
-put-pairs-requires c κs = omega arith
-
-hex-at-requires : tie.Need-hex-at-requires
-hex-at-requires c κs = search needs
-
-slice-write-m : tie.Need-slice-write-m
-slice-write-m c = omega arith
-
-add-put-pairs : tie.Need-add-put-pairs
-add-put-pairs c = omega arith
-
-add-put-pairs-2 : tie.Need-add-put-pairs-2
-add-put-pairs-2 c = omega arith
-
-put-pairs-requires-2 : tie.Need-put-pairs-requires-2
-put-pairs-requires-2 c κs = (omega arith, simp length-set (omega arith))
-
-same-length : tie.Need-same-length
-same-length c = search needs
-
 returns : tie.Need-returns
 unfolding hexBytes
 returns c = rw (eq-eqb _ _ (c .before .before .before .before .if1 .taken)) (c .before .before .put-pairs .ensures)
@@ -45,13 +24,13 @@ pub put-hex-spec : {M : Type 1} → statement M
 put-hex-spec =
     tie.close
     (tie.spec
-    put-pairs-requires
-    hex-at-requires
-    slice-write-m
-    add-put-pairs
-    add-put-pairs-2
-    put-pairs-requires-2
-    same-length
+    (λ c κs. omega arith)
+    (λ c κs. search needs)
+    (λ c. omega arith)
+    (λ c. omega arith)
+    (λ c. omega arith)
+    (λ c κs. (omega arith, simp length-set (omega arith)))
+    (λ c. search needs)
     returns
     same-length-2
     returns-2)

@@ -16,32 +16,8 @@ Inv-loop o at n m₀ to p₀ i₀ m p i = (i ≤ n) × (length m ≡ length m₀
 abbrev μ-loop : tie.MeasureT-loop
 μ-loop o at n m₀ to p₀ i₀ m p i = n - i
 
-loop-holds : tie.Need-loop-holds Inv-loop μ-loop
-loop-holds c = (omega arith, refl, rw (add-zero, sub-zero), omega arith)
-
-pair-at-requires : tie.Need-pair-at-requires Inv-loop μ-loop
-pair-at-requires c κs = omega arith
-
-add-p : tie.Need-add-p Inv-loop μ-loop
-add-p c = omega arith
-
-add-m : tie.Need-add-m Inv-loop μ-loop
-add-m c = omega arith
-
-slice-write-m : tie.Need-slice-write-m Inv-loop μ-loop
-slice-write-m c = omega arith
-
-add-i : tie.Need-add-i Inv-loop μ-loop
-add-i c = omega arith
-
-loop-less : tie.Need-loop-less Inv-loop μ-loop
-loop-less c = omega arith
-
 loop-again : tie.Need-loop-again Inv-loop μ-loop
 loop-again c = (omega arith, simp length-set (c .before .before .loop .inv .1), c .before .before .loop .inv .2 ∙ store-more (c .before .before .loop .m) (c .before .before .before .before .before .args .to) (c .before .before .loop .i) (c .pair-at .result) (pairsFrom (c .before .before .before .before .before .args .n - c .before .before .loop .i) (c .before .before .before .before .before .args .o .now) (c .before .before .loop .p)) (pairsFrom (c .before .before .before .before .before .args .n - (c .before .before .loop .i + 1)) (c .before .before .before .before .before .args .o .now) (c .before .before .loop .p + 2)) (rw (c .pair-at .ensures) (pairs-more (c .before .before .before .before .before .args .n) (c .before .before .loop .i) (c .before .before .before .before .before .args .o .now) (c .before .before .loop .p) (c .before .loop-test .taken))), omega arith)
-
-same-length : tie.Need-same-length Inv-loop μ-loop
-same-length c = c .before .loop .inv .1
 
 returns : tie.Need-returns Inv-loop μ-loop
 returns c = sym (c .before .loop .inv .2 ∙ pairs-done (c .before .loop .m) (c .before .before .before .before .args .to + c .before .loop .i) (c .before .before .before .before .args .n) (c .before .loop .i) (c .before .before .before .before .args .o .now) (c .before .loop .p) (omega arith))
@@ -52,13 +28,13 @@ put-pairs-spec =
     (tie.spec
     Inv-loop
     μ-loop
-    loop-holds
-    pair-at-requires
-    add-p
-    add-m
-    slice-write-m
-    add-i
-    loop-less
+    (λ c. (omega arith, refl, rw (add-zero, sub-zero), omega arith))
+    (λ c κs. omega arith)
+    (λ c. omega arith)
+    (λ c. omega arith)
+    (λ c. omega arith)
+    (λ c. omega arith)
+    (λ c. omega arith)
     loop-again
-    same-length
+    (λ c. c .before .loop .inv .1)
     returns)

@@ -23,12 +23,6 @@ loop-holds : tie.Need-loop-holds Inv-loop μ-loop
 unfolding charactersAt
 loop-holds c = (omega arith, (suc (length (c .before .args .s .now)), omega arith, omega arith, refl))
 
-quoted-at-requires : tie.Need-quoted-at-requires Inv-loop μ-loop
-quoted-at-requires c κs = search needs
-
-enum-known-next : tie.Need-enum-known-next Inv-loop μ-loop
-enum-known-next c = search needs
-
 -- what was read
 read : (c : tie.After-quoted-at Inv-loop μ-loop) → quotedAt (c .before .before .before .args .s .now) (c .before .loop .p) ≡ c .quoted-at .result
 read c = sym (c .quoted-at .ensures)
@@ -37,30 +31,15 @@ read c = sym (c .quoted-at .ensures)
 one : (c : tie.After-known-told Inv-loop μ-loop) → (c .before .before .before .before .loop .p < c .before .next .given .0 .1 .0) × (c .before .next .given .0 .1 .0 ≤ length (c .before .before .before .before .before .before .args .s .now)) × (c .before .next .given .0 .0 < 256)
 one c = let w = quoted-within (c .before .before .before .before .before .before .args .s .now) (c .before .before .before .before .loop .p) in rw (read (c .before .before .before) ∙ c .before .next .given .1) at w
 
-add-n : tie.Need-add-n Inv-loop μ-loop
-add-n c = omega (arith, one c .0, one c .1)
-
-loop-less : tie.Need-loop-less Inv-loop μ-loop
-loop-less c = omega (arith, one c .0, one c .1)
-
 loop-again : tie.Need-loop-again Inv-loop μ-loop
 loop-again c = let (f, pos, w, e) = c .before .before .before .before .loop .inv .1 in let o = one c in
     (omega arith, (f - 1, omega arith, omega arith, sym (characters-more (c .before .before .before .before .before .before .args .s .now) (c .before .before .before .before .loop .p) (c .before .next .given .0 .1 .0) (c .before .before .before .before .loop .n) f (c .before .next .given .0 .0) pos (read (c .before .before .before) ∙ c .before .next .given .1)) ∙ e))
 
-enum-known-next-2 : tie.Need-enum-known-next-2 Inv-loop μ-loop
-enum-known-next-2 c = search needs
-
 returns : tie.Need-returns Inv-loop μ-loop
 returns c = let (f, pos, w, e) = c .before .before .before .before .before .loop .inv .1 in sym (rw (eq-eqb _ _ (c .if1 .taken)) at (sym e ∙ characters-closed (c .before .before .before .before .before .before .before .args .s .now) (c .before .before .before .before .before .loop .p) (c .before .before .next2 .given .0 .0) (c .before .before .before .before .before .loop .n) f pos (read (c .before .before .before .before) ∙ c .before .before .next2 .given .1)))
 
-tell-requires : tie.Need-tell-requires Inv-loop μ-loop
-tell-requires c κs = search needs
-
 returns-2 : tie.Need-returns-2 Inv-loop μ-loop
 returns-2 c = let (f, pos, w, e) = c .before .before .before .before .before .before .loop .inv .1 in ap (λ k. Extent.Of k (c .before .before .before .next2 .given .0 .0)) (c .tell .ensures) ∙ sym (rw (ne-eqb _ _ (c .before .if1 .left)) at (sym e ∙ characters-closed (c .before .before .before .before .before .before .before .before .args .s .now) (c .before .before .before .before .before .before .loop .p) (c .before .before .before .next2 .given .0 .0) (c .before .before .before .before .before .before .loop .n) f pos (read (c .before .before .before .before .before) ∙ c .before .before .before .next2 .given .1)))
-
-enum-known-end : tie.Need-enum-known-end Inv-loop μ-loop
-enum-known-end c = search needs
 
 returns-3 : tie.Need-returns-3 Inv-loop μ-loop
 returns-3 c = let (f, pos, w, e) = c .before .before .before .before .loop .inv .1 in sym (characters-none (c .before .before .before .before .before .before .args .s .now) (c .before .before .before .before .loop .p) (c .before .end .given .0 .0) (c .before .before .before .before .loop .n) f pos (read (c .before .before .before) ∙ c .before .end .given .1)) ∙ e
@@ -72,14 +51,14 @@ count-characters-spec =
     Inv-loop
     μ-loop
     loop-holds
-    quoted-at-requires
-    enum-known-next
-    add-n
-    loop-less
+    (λ c κs. search needs)
+    (λ c. search needs)
+    (λ c. omega (arith, one c .0, one c .1))
+    (λ c. omega (arith, one c .0, one c .1))
     loop-again
-    enum-known-next-2
+    (λ c. search needs)
     returns
-    tell-requires
+    (λ c κs. search needs)
     returns-2
-    enum-known-end
+    (λ c. search needs)
     returns-3)

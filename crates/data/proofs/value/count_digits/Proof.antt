@@ -11,15 +11,9 @@ use Rattle.data.proofs.Within.{digits-within}
 use Rattle.data.proofs.value.count_digits.Statement.{statement}
 use Rattle.data.proofs.value.count_digits.Tie as tie
 
-digits-end-requires : tie.Need-digits-end-requires
-digits-end-requires c κs = search needs
-
 returns : tie.Need-returns
 unfolding runAt
 returns c = rw (sym (c .before .digits-end .ensures), eq-eqb _ _ (c .if1 .taken))
-
-byte-at-requires : tie.Need-byte-at-requires
-byte-at-requires c κs = search needs
 
 returns-2 : tie.Need-returns-2
 unfolding runAt
@@ -27,9 +21,6 @@ returns-2 c = rw (sym (c .before .before .before .digits-end .ensures), ne-eqb _
 
 sub-tell : tie.Need-sub-tell
 sub-tell c = let e = c .before .before .before .digits-end .ensures in omega (arith, digits-within (c .before .before .before .before .before .args .base) (c .before .before .before .before .before .args .s .now) (c .before .before .before .before .before .args .at) (c .before .before .before .before .before .pre) .0)
-
-tell-requires : tie.Need-tell-requires
-tell-requires c κs = search needs
 
 add-t9 : tie.Need-add-t9
 add-t9 c = omega (arith, stands-inside 39 (c .before .before .before .before .before .before .args .s .now) (c .before .before .before .before .digits-end .result) (omega arith) (is-byte (c .before .before .byte-at .ensures) (c .before .if2 .left)))
@@ -42,11 +33,11 @@ pub count-digits-spec : {M : Type 1} → statement M
 count-digits-spec =
     tie.close
     (tie.spec
-    digits-end-requires
+    (λ c κs. search needs)
     returns
-    byte-at-requires
+    (λ c κs. search needs)
     returns-2
     sub-tell
-    tell-requires
+    (λ c κs. search needs)
     add-t9
     returns-3)

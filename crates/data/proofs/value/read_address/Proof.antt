@@ -9,18 +9,6 @@ use Rattle.data.specs.Form.{addressAt}
 use Rattle.data.proofs.value.read_address.Statement.{statement}
 use Rattle.data.proofs.value.read_address.Tie as tie
 
-expression-form-requires : tie.Need-expression-form-requires
-expression-form-requires c κs = search needs
-
-enum-known-q : tie.Need-enum-known-q
-enum-known-q c = search needs
-
-enum-known-q-2 : tie.Need-enum-known-q-2
-enum-known-q-2 c = search needs
-
-byte-at-requires : tie.Need-byte-at-requires
-byte-at-requires c κs = search needs
-
 add-t10 : tie.Need-add-t10
 add-t10 c = omega (arith, stands-inside 41 (c .before .before .before .before .before .before .before .args .s .now) (c .before .before .before .q2 .given .0 .0) (omega arith) (is-byte (c .before .byte-at .ensures) (c .if1 .taken)))
 
@@ -40,10 +28,10 @@ pub read-address-spec : {M : Type 1} → statement M
 read-address-spec =
     tie.close
     (tie.spec
-    expression-form-requires
-    enum-known-q
-    enum-known-q-2
-    byte-at-requires
+    (λ c κs. search needs)
+    (λ c. search needs)
+    (λ c. search needs)
+    (λ c κs. search needs)
     add-t10
     returns
     returns-2

@@ -16,23 +16,8 @@ Inv-loop s at p₀ p = (m : Bool) × (formOf (productsAt m s p) ≡ formOf (prod
 abbrev μ-loop : tie.MeasureT-loop
 μ-loop s at p₀ p = length s - p
 
-loop-holds : tie.Need-loop-holds Inv-loop μ-loop
-loop-holds c = (false, refl)
-
-product-form-requires : tie.Need-product-form-requires Inv-loop μ-loop
-product-form-requires c κs = search needs
-
-enum-known-q : tie.Need-enum-known-q Inv-loop μ-loop
-enum-known-q c = search needs
-
 returns : tie.Need-returns Inv-loop μ-loop
 returns c = let l = c .before .before .before .before .loop in let (m, i) = l .inv in sym (form-fail (c .before .before .before .before .before .before .args .s .now) m (l .p) (c .before .q .given .0 .0) (sym (c .before .before .before .product-form .ensures) ∙ c .before .q .given .1)) ∙ i
-
-enum-known-q-2 : tie.Need-enum-known-q-2 Inv-loop μ-loop
-enum-known-q-2 c = search needs
-
-joins-at-requires : tie.Need-joins-at-requires Inv-loop μ-loop
-joins-at-requires c κs = search needs
 
 add-p : tie.Need-add-p Inv-loop μ-loop
 add-p c = omega (arith, joins-inside (c .before .before .before .before .before .before .before .before .args .s .now) (c .before .before .before .q2 .given .0 .0) (sym (c .before .joins-at .ensures) ∙ c .if1 .taken))
@@ -52,12 +37,12 @@ expression-form-spec =
     (tie.spec
     Inv-loop
     μ-loop
-    loop-holds
-    product-form-requires
-    enum-known-q
+    (λ c. (false, refl))
+    (λ c κs. search needs)
+    (λ c. search needs)
     returns
-    enum-known-q-2
-    joins-at-requires
+    (λ c. search needs)
+    (λ c κs. search needs)
     add-p
     loop-less
     loop-again

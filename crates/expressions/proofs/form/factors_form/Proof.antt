@@ -20,12 +20,6 @@ Inv-loop s at q₀ q = formOf (factorsAt s q) ≡ formOf (factorsAt s at)
 abbrev μ-loop : tie.MeasureT-loop
 μ-loop s at q₀ q = length s - q
 
-loop-holds : tie.Need-loop-holds Inv-loop μ-loop
-loop-holds c = refl
-
-byte-at-requires : tie.Need-byte-at-requires Inv-loop μ-loop
-byte-at-requires c κs = search needs
-
 -- a `*` stands at the position
 star : (c : tie.Then1 Inv-loop μ-loop) → stands "*" (c .before .before .before .before .args .s .now) (c .before .before .loop .q) ≡ true
 star c = is-byte (c .before .byte-at .ensures) (c .if1 .taken)
@@ -33,24 +27,12 @@ star c = is-byte (c .before .byte-at .ensures) (c .if1 .taken)
 add-read-term : tie.Need-add-read-term Inv-loop μ-loop
 add-read-term c = omega (arith, stands-inside 42 (c .before .before .before .before .args .s .now) (c .before .before .loop .q) (omega arith) (star c))
 
-read-term-requires : tie.Need-read-term-requires Inv-loop μ-loop
-read-term-requires c κs = search needs
-
-end-of-requires : tie.Need-end-of-requires Inv-loop μ-loop
-end-of-requires c κs = search needs
-
-enum-known-r : tie.Need-enum-known-r Inv-loop μ-loop
-enum-known-r c = search needs
-
 -- the end of the term behind it
 read : (c : tie.After-end-of Inv-loop μ-loop) → endOf (termAt (c .before .before .before .before .before .before .args .s .now) (c .before .before .before .before .loop .q + 1)) ≡ c .end-of .result
 read c = ap endOf (sym (c .before .read-term .ensures)) ∙ sym (c .end-of .ensures)
 
 returns : tie.Need-returns Inv-loop μ-loop
 returns c = let l = c .before .before .before .before .before .before .before .loop in sym (ap formOf (factors-fail (c .before .before .before .before .before .before .before .before .before .args .s .now) (l .q) (c .before .r .given .0 .0) (star (c .before .before .before .before .before)) (read (c .before .before .before) ∙ c .before .r .given .1))) ∙ l .inv
-
-enum-known-r-2 : tie.Need-enum-known-r-2 Inv-loop μ-loop
-enum-known-r-2 c = search needs
 
 loop-less : tie.Need-loop-less Inv-loop μ-loop
 loop-less c = let w = end-within (c .before .before .before .before .before .before .before .before .before .args .s .now) (c .before .before .before .before .before .before .before .loop .q + 1) (c .before .r2 .given .0 .0) (read (c .before .before .before) ∙ c .before .r2 .given .1) in omega arith
@@ -67,14 +49,14 @@ factors-form-spec =
     (tie.spec
     Inv-loop
     μ-loop
-    loop-holds
-    byte-at-requires
+    (λ c. refl)
+    (λ c κs. search needs)
     add-read-term
-    read-term-requires
-    end-of-requires
-    enum-known-r
+    (λ c κs. search needs)
+    (λ c κs. search needs)
+    (λ c. search needs)
     returns
-    enum-known-r-2
+    (λ c. search needs)
     loop-less
     loop-again
     returns-2)

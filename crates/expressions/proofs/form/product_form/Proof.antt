@@ -7,21 +7,6 @@ use borrow.Author.Needs.{needs}
 use Rattle.expressions.proofs.form.product_form.Statement.{statement}
 use Rattle.expressions.proofs.form.product_form.Tie as tie
 
-read-term-requires : tie.Need-read-term-requires
-read-term-requires c κs = search needs
-
-end-of-requires : tie.Need-end-of-requires
-end-of-requires c κs = search needs
-
-enum-known-q : tie.Need-enum-known-q
-enum-known-q c = search needs
-
-enum-known-q-2 : tie.Need-enum-known-q-2
-enum-known-q-2 c = search needs
-
-factors-form-requires : tie.Need-factors-form-requires
-factors-form-requires c κs = search needs
-
 -- the end of the first term
 read : (c : tie.After-end-of) → endOf (termAt (c .before .before .before .args .s .now) (c .before .before .before .args .at)) ≡ c .end-of .result
 read c = ap endOf (sym (c .before .read-term .ensures)) ∙ sym (c .end-of .ensures)
@@ -36,10 +21,10 @@ pub product-form-spec : {M : Type 1} → statement M
 product-form-spec =
     tie.close
     (tie.spec
-    read-term-requires
-    end-of-requires
-    enum-known-q
-    enum-known-q-2
-    factors-form-requires
+    (λ c κs. search needs)
+    (λ c κs. search needs)
+    (λ c. search needs)
+    (λ c. search needs)
+    (λ c κs. search needs)
     returns
     returns-2)

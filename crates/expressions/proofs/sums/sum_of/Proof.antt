@@ -5,12 +5,6 @@ use borrow.Author.Needs.{needs}
 use Rattle.expressions.proofs.sums.sum_of.Statement.{statement}
 use Rattle.expressions.proofs.sums.sum_of.Tie as tie
 
-add-more : tie.Need-add-more
-add-more c = search needs
-
-cast-result : tie.Need-cast-result
-cast-result c = search needs
-
 returns : tie.Need-returns
 unfolding summed
 returns c = rw (c .before .if1 .taken, le-leb _ _ (c .if2 .taken))
@@ -28,4 +22,6 @@ unfolding summed
 returns-4 c = rw (c .before .if1 .left, lt-leb _ _ (c .if3 .left))
 
 pub sum-of-spec : {M : Type 1} → statement M
-sum-of-spec = tie.close (tie.spec add-more cast-result returns returns-2 returns-3 returns-4)
+sum-of-spec =
+    tie.close
+    (tie.spec (λ c. search needs) (λ c. search needs) returns returns-2 returns-3 returns-4)

@@ -4,9 +4,6 @@ use borrow.Author.Needs.{needs}
 use Rattle.expressions.proofs.sums.sum_out.Statement.{statement}
 use Rattle.expressions.proofs.sums.sum_out.Tie as tie
 
-add-result : tie.Need-add-result
-add-result c = search needs
-
 returns : tie.Need-returns
 unfolding summedOut
 returns c = rw (c .if1 .taken)
@@ -16,4 +13,4 @@ unfolding summedOut
 returns-2 c = rw (c .if1 .left)
 
 pub sum-out-spec : {M : Type 1} → statement M
-sum-out-spec = tie.close (tie.spec add-result returns returns-2)
+sum-out-spec = tie.close (tie.spec (λ c. search needs) returns returns-2)

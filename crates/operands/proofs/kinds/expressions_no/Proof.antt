@@ -4,72 +4,6 @@ use borrow.Author.Needs.{needs}
 use Rattle.operands.proofs.kinds.expressions_no.Statement.{statement}
 use Rattle.operands.proofs.kinds.expressions_no.Tie as tie
 
-enum-known-x : tie.Need-enum-known-x
-enum-known-x c = search needs
-
-address-no-requires : tie.Need-address-no-requires
-address-no-requires c κs = search needs
-
-address-no-requires-2 : tie.Need-address-no-requires-2
-address-no-requires-2 c κs = search needs
-
-lower-of-requires : tie.Need-lower-of-requires
-lower-of-requires c κs = search needs
-
-enum-known-x-2 : tie.Need-enum-known-x-2
-enum-known-x-2 c = search needs
-
-address-no-requires-3 : tie.Need-address-no-requires-3
-address-no-requires-3 c κs = search needs
-
-refusal-for-requires : tie.Need-refusal-for-requires
-refusal-for-requires c κs = search needs
-
-lower-of-requires-2 : tie.Need-lower-of-requires-2
-lower-of-requires-2 c κs = search needs
-
-enum-known-x-3 : tie.Need-enum-known-x-3
-enum-known-x-3 c = search needs
-
-address-no-requires-4 : tie.Need-address-no-requires-4
-address-no-requires-4 c κs = search needs
-
-enum-known-x-4 : tie.Need-enum-known-x-4
-enum-known-x-4 c = search needs
-
-first-wanted-requires : tie.Need-first-wanted-requires
-first-wanted-requires c κs = search needs
-
-refusal-for-requires-2 : tie.Need-refusal-for-requires-2
-refusal-for-requires-2 c κs = search needs
-
-refusal-for-requires-3 : tie.Need-refusal-for-requires-3
-refusal-for-requires-3 c κs = search needs
-
-lower-of-requires-3 : tie.Need-lower-of-requires-3
-lower-of-requires-3 c κs = search needs
-
-enum-known-x-5 : tie.Need-enum-known-x-5
-enum-known-x-5 c = search needs
-
-first-wanted-requires-2 : tie.Need-first-wanted-requires-2
-first-wanted-requires-2 c κs = search needs
-
-refusal-for-requires-4 : tie.Need-refusal-for-requires-4
-refusal-for-requires-4 c κs = search needs
-
-enum-known-x-6 : tie.Need-enum-known-x-6
-enum-known-x-6 c = search needs
-
-constant-wanted-requires : tie.Need-constant-wanted-requires
-constant-wanted-requires c κs = search needs
-
-refusal-for-requires-5 : tie.Need-refusal-for-requires-5
-refusal-for-requires-5 c κs = search needs
-
-enum-told : tie.Need-enum-told
-enum-told c = search needs
-
 returns : tie.Need-returns
 unfolding expressionsNo
 returns c = rw (c .lower-of .ensures, c .before .address-no2 .ensures, c .before .before .address-no .ensures, c .before .before .before .before .x .given .1)
@@ -102,28 +36,28 @@ pub expressions-no-spec : {M : Type 1} → statement M
 expressions-no-spec =
     tie.close
     (tie.spec
-    enum-known-x
-    address-no-requires
-    address-no-requires-2
-    lower-of-requires
-    enum-known-x-2
-    address-no-requires-3
-    refusal-for-requires
-    lower-of-requires-2
-    enum-known-x-3
-    address-no-requires-4
-    enum-known-x-4
-    first-wanted-requires
-    refusal-for-requires-2
-    refusal-for-requires-3
-    lower-of-requires-3
-    enum-known-x-5
-    first-wanted-requires-2
-    refusal-for-requires-4
-    enum-known-x-6
-    constant-wanted-requires
-    refusal-for-requires-5
-    enum-told
+    (λ c. search needs)
+    (λ c κs. search needs)
+    (λ c κs. search needs)
+    (λ c κs. search needs)
+    (λ c. search needs)
+    (λ c κs. search needs)
+    (λ c κs. search needs)
+    (λ c κs. search needs)
+    (λ c. search needs)
+    (λ c κs. search needs)
+    (λ c. search needs)
+    (λ c κs. search needs)
+    (λ c κs. search needs)
+    (λ c κs. search needs)
+    (λ c κs. search needs)
+    (λ c. search needs)
+    (λ c κs. search needs)
+    (λ c κs. search needs)
+    (λ c. search needs)
+    (λ c κs. search needs)
+    (λ c κs. search needs)
+    (λ c. search needs)
     returns
     returns-2
     returns-3

@@ -7,18 +7,10 @@ use borrow.Author.Needs.{needs}
 use Rattle.operations.proofs.codes.branch_to.Statement.{statement}
 use Rattle.operations.proofs.codes.branch_to.Tie as tie
 
-wide-requires : tie.Need-wide-requires
-wide-requires c κs = search needs
-
-add-of-halves : tie.Need-add-of-halves
-add-of-halves c = search needs
-
-of-halves-requires : tie.Need-of-halves-requires
-of-halves-requires c κs = search needs
-
 returns : tie.Need-returns
 unfolding branch
 returns c = let high : 12 + c .before .wide .result ≡ 12 + c .before .before .args .j = omega arith in c .of-halves .ensures ∙ ap (λ h. halves h (c .before .before .args .low)) high
 
 pub branch-to-spec : {M : Type 1} → statement M
-branch-to-spec = tie.close (tie.spec wide-requires add-of-halves of-halves-requires returns)
+branch-to-spec =
+    tie.close (tie.spec (λ c κs. search needs) (λ c. search needs) (λ c κs. search needs) returns)

@@ -5,14 +5,8 @@ use borrow.Author.Needs.{needs}
 use Rattle.operations.proofs.codes.operation_byte.Statement.{statement}
 use Rattle.operations.proofs.codes.operation_byte.Tie as tie
 
-traits-of-requires : tie.Need-traits-of-requires
-traits-of-requires c κs = search needs
-
-byte-by-requires : tie.Need-byte-by-requires
-byte-by-requires c κs = search needs
-
 returns : tie.Need-returns
 returns c = c .byte-by .ensures ∙ ap (λ t. byteBy (t .opcode) (c .before .before .args .i) (c .before .before .args .j)) (c .before .traits-of .ensures)
 
 pub operation-byte-spec : {M : Type 1} → statement M
-operation-byte-spec = tie.close (tie.spec traits-of-requires byte-by-requires returns)
+operation-byte-spec = tie.close (tie.spec (λ c κs. search needs) (λ c κs. search needs) returns)

@@ -7,21 +7,6 @@ use borrow.Author.Needs.{needs}
 use Rattle.operations.proofs.codes.two_address.Statement.{statement}
 use Rattle.operations.proofs.codes.two_address.Tie as tie
 
-wide-requires : tie.Need-wide-requires
-wide-requires c κs = search needs
-
-mul-of-halves : tie.Need-mul-of-halves
-mul-of-halves c = search needs
-
-wide-requires-2 : tie.Need-wide-requires-2
-wide-requires-2 c κs = search needs
-
-add-of-halves : tie.Need-add-of-halves
-add-of-halves c = search needs
-
-of-halves-requires : tie.Need-of-halves-requires
-of-halves-requires c κs = search needs
-
 returns : tie.Need-returns
 unfolding twoAddress
 returns c = let high : 4 * c .before .before .wide .result + c .before .wide2 .result ≡ 4 * c .before .before .before .args .i + c .before .before .before .args .j = omega arith in c .of-halves .ensures ∙ ap (λ h. halves h (c .before .before .before .args .low)) high
@@ -29,4 +14,10 @@ returns c = let high : 4 * c .before .before .wide .result + c .before .wide2 .r
 pub two-address-spec : {M : Type 1} → statement M
 two-address-spec =
     tie.close
-    (tie.spec wide-requires mul-of-halves wide-requires-2 add-of-halves of-halves-requires returns)
+    (tie.spec
+    (λ c κs. search needs)
+    (λ c. search needs)
+    (λ c κs. search needs)
+    (λ c. search needs)
+    (λ c κs. search needs)
+    returns)

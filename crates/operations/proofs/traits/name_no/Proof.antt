@@ -5,14 +5,8 @@ use borrow.Author.Needs.{needs}
 use Rattle.operations.proofs.traits.name_no.Statement.{statement}
 use Rattle.operations.proofs.traits.name_no.Tie as tie
 
-traits-of-requires : tie.Need-traits-of-requires
-traits-of-requires c κs = search needs
-
-named-no-requires : tie.Need-named-no-requires
-named-no-requires c κs = search needs
-
 returns : tie.Need-returns
 returns c = c .named-no .ensures ∙ ap (λ t. namedNo (t .naming) (c .before .before .args .name)) (c .before .traits-of .ensures)
 
 pub name-no-spec : {M : Type 1} → statement M
-name-no-spec = tie.close (tie.spec traits-of-requires named-no-requires returns)
+name-no-spec = tie.close (tie.spec (λ c κs. search needs) (λ c κs. search needs) returns)

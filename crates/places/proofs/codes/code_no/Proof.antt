@@ -10,19 +10,15 @@ use borrow.Author.Needs.{needs}
 use Rattle.places.proofs.codes.code_no.Statement.{statement}
 use Rattle.places.proofs.codes.code_no.Tie as tie
 
-enum-told : tie.Need-enum-told
-enum-told c = search needs
-
-returns : tie.Need-returns
-returns c = search needs
-
 others : (x : Code) → OneOf (1 ∷ 2 ∷ []) (tagOf the-type x) → 21 ≡ codeNo x
 others (Code.Byte b) k = absurd (miss (1 ∷ 2 ∷ []) 0 tt k)
 others Code.OutOfRange k = refl
 others Code.Nothing k = refl
 
-returns-2 : tie.Need-returns-2
-returns-2 c = others (c .before .args .c) (c .match .keys2)
-
 pub code-no-spec : {M : Type 1} → statement M
-code-no-spec = tie.close (tie.spec enum-told returns returns-2)
+code-no-spec =
+    tie.close
+    (tie.spec
+    (λ c. search needs)
+    (λ c. search needs)
+    (λ c. others (c .before .args .c) (c .match .keys2)))

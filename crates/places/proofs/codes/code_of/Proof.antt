@@ -12,30 +12,6 @@ use borrow.Author.Needs.{needs}
 use Rattle.places.proofs.codes.code_of.Statement.{statement}
 use Rattle.places.proofs.codes.code_of.Tie as tie
 
-rule-of-requires : tie.Need-rule-of-requires
-rule-of-requires c κs = search needs
-
-enum-known-x : tie.Need-enum-known-x
-enum-known-x c = search needs
-
-two-code-requires : tie.Need-two-code-requires
-two-code-requires c κs = search needs
-
-enum-known-x-2 : tie.Need-enum-known-x-2
-enum-known-x-2 c = search needs
-
-behind-code-requires : tie.Need-behind-code-requires
-behind-code-requires c κs = search needs
-
-enum-known-x-3 : tie.Need-enum-known-x-3
-enum-known-x-3 c = search needs
-
-behind-code-requires-2 : tie.Need-behind-code-requires-2
-behind-code-requires-2 c κs = search needs
-
-given-code-requires : tie.Need-given-code-requires
-given-code-requires c κs = search needs
-
 returns : tie.Need-returns
 unfolding codeOf
 returns c = rw (c .two-code .ensures, c .before .before .before .before .rule-of .ensures, c .before .before .x .given .1)
@@ -65,14 +41,14 @@ pub code-of-spec : {M : Type 1} → statement M
 code-of-spec =
     tie.close
     (tie.spec
-    rule-of-requires
-    enum-known-x
-    two-code-requires
-    enum-known-x-2
-    behind-code-requires
-    enum-known-x-3
-    behind-code-requires-2
-    given-code-requires
+    (λ c κs. search needs)
+    (λ c. search needs)
+    (λ c κs. search needs)
+    (λ c. search needs)
+    (λ c κs. search needs)
+    (λ c. search needs)
+    (λ c κs. search needs)
+    (λ c κs. search needs)
     returns
     returns-2
     returns-3

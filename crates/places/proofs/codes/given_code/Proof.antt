@@ -11,12 +11,6 @@ use borrow.Author.Needs.{needs}
 use Rattle.places.proofs.codes.given_code.Statement.{statement}
 use Rattle.places.proofs.codes.given_code.Tie as tie
 
-enum-known-rule : tie.Need-enum-known-rule
-enum-known-rule c = search needs
-
-returns : tie.Need-returns
-returns c = rw (c .before .rule .given .1)
-
 others : (r : Rule) → OneOf (0 ∷ 1 ∷ 2 ∷ 3 ∷ 4 ∷ []) (tagOf the-type r) → Code.Nothing ≡ givenCode r
 others Rule.Lengths k = refl
 others Rule.Length k = refl
@@ -25,8 +19,10 @@ others Rule.Register k = refl
 others Rule.Written k = refl
 others (Rule.Given q) k = absurd (miss (0 ∷ 1 ∷ 2 ∷ 3 ∷ 4 ∷ []) 5 tt k)
 
-returns-2 : tie.Need-returns-2
-returns-2 c = others (c .before .args .rule) (c .match .keys2)
-
 pub given-code-spec : {M : Type 1} → statement M
-given-code-spec = tie.close (tie.spec enum-known-rule returns returns-2)
+given-code-spec =
+    tie.close
+    (tie.spec
+    (λ c. search needs)
+    (λ c. rw (c .before .rule .given .1))
+    (λ c. others (c .before .args .rule) (c .match .keys2)))

@@ -9,12 +9,9 @@ returns : tie.Need-returns
 unfolding itemCode
 returns c = rw (lt-leb _ _ (c .if1 .taken))
 
-cast-t3 : tie.Need-cast-t3
-cast-t3 c = search needs
-
 returns-2 : tie.Need-returns-2
 unfolding itemCode
 returns-2 c = rw (le-leb _ _ (c .if1 .left))
 
 pub item-code-spec : {M : Type 1} → statement M
-item-code-spec = tie.close (tie.spec returns cast-t3 returns-2)
+item-code-spec = tie.close (tie.spec returns (λ c. search needs) returns-2)

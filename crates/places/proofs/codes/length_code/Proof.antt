@@ -13,12 +13,9 @@ returns-2 : tie.Need-returns-2
 unfolding lengthCode
 returns-2 c = rw (le-leb _ _ (c .before .if1 .left), lt-leb _ _ (c .if2 .taken))
 
-cast-t4 : tie.Need-cast-t4
-cast-t4 c = search needs
-
 returns-3 : tie.Need-returns-3
 unfolding lengthCode
 returns-3 c = rw (le-leb _ _ (c .before .if1 .left), le-leb _ _ (c .if2 .left))
 
 pub length-code-spec : {M : Type 1} → statement M
-length-code-spec = tie.close (tie.spec returns returns-2 cast-t4 returns-3)
+length-code-spec = tie.close (tie.spec returns returns-2 (λ c. search needs) returns-3)

@@ -21,19 +21,19 @@ returns-4 : tie.Need-returns-4
 unfolding lengthsCode
 returns-4 c = rw (le-leb _ _ (c .before .before .before .if1 .left), le-leb _ _ (c .before .before .if2 .left), le-leb _ _ (c .before .if3 .left), lt-leb _ _ (c .if4 .taken))
 
-mul-t5 : tie.Need-mul-t5
-mul-t5 c = search needs
-
-add-t7 : tie.Need-add-t7
-add-t7 c = search needs
-
-cast-t8 : tie.Need-cast-t8
-cast-t8 c = search needs
-
 returns-5 : tie.Need-returns-5
 unfolding lengthsCode
 returns-5 c = rw (le-leb _ _ (c .before .before .before .if1 .left), le-leb _ _ (c .before .before .if2 .left), le-leb _ _ (c .before .if3 .left), le-leb _ _ (c .if4 .left))
 
 pub lengths-code-spec : {M : Type 1} → statement M
 lengths-code-spec =
-    tie.close (tie.spec returns returns-2 returns-3 returns-4 mul-t5 add-t7 cast-t8 returns-5)
+    tie.close
+    (tie.spec
+    returns
+    returns-2
+    returns-3
+    returns-4
+    (λ c. search needs)
+    (λ c. search needs)
+    (λ c. search needs)
+    returns-5)

@@ -3,21 +3,12 @@ use borrow.Author.Needs.{needs}
 use Rattle.places.proofs.codes.written_of.Statement.{statement}
 use Rattle.places.proofs.codes.written_of.Tie as tie
 
-enum-known-q : tie.Need-enum-known-q
-enum-known-q c = search needs
-
-written-code-requires : tie.Need-written-code-requires
-written-code-requires c κs = search needs
-
-enum-told : tie.Need-enum-told
-enum-told c = search needs
-
-returns : tie.Need-returns
-returns c = rw (c .written-code .ensures, c .before .before .q .given .1)
-
-returns-2 : tie.Need-returns-2
-returns-2 c = search needs
-
 pub written-of-spec : {M : Type 1} → statement M
 written-of-spec =
-    tie.close (tie.spec enum-known-q written-code-requires enum-told returns returns-2)
+    tie.close
+    (tie.spec
+    (λ c. search needs)
+    (λ c κs. search needs)
+    (λ c. search needs)
+    (λ c. rw (c .written-code .ensures, c .before .before .q .given .1))
+    (λ c. search needs))

@@ -7,24 +7,6 @@ use borrow.Author.Needs.{needs}
 use Rattle.terms.proofs.naming.name_byte.Statement.{statement}
 use Rattle.terms.proofs.naming.name_byte.Tie as tie
 
-add-if1 : tie.Need-add-if1
-add-if1 c = search needs
-
-add-byte-at : tie.Need-add-byte-at
-add-byte-at c = search needs
-
-byte-at-requires : tie.Need-byte-at-requires
-byte-at-requires c κs = search needs
-
-code-of-requires : tie.Need-code-of-requires
-code-of-requires c κs = search needs
-
-wide64-requires : tie.Need-wide64-requires
-wide64-requires c κs = search needs
-
-wide64-requires-2 : tie.Need-wide64-requires-2
-wide64-requires-2 c κs = search needs
-
 returns : tie.Need-returns
 unfolding nameByte
 returns c = (rw (lt-ltb _ _ (c .before .before .before .if1 .taken)) (c .wide64 .ensures .0 ∙ c .before .code-of .ensures ∙ ap codeOf (c .before .before .byte-at .ensures)), c .wide64 .ensures .1)
@@ -37,11 +19,11 @@ pub name-byte-spec : {M : Type 1} → statement M
 name-byte-spec =
     tie.close
     (tie.spec
-    add-if1
-    add-byte-at
-    byte-at-requires
-    code-of-requires
-    wide64-requires
-    wide64-requires-2
+    (λ c. search needs)
+    (λ c. search needs)
+    (λ c κs. search needs)
+    (λ c κs. search needs)
+    (λ c κs. search needs)
+    (λ c κs. search needs)
     returns
     returns-2)

@@ -26,15 +26,6 @@ Inv-loop s at i₀ left₀ i left = (nameEnd left s i ≡ nameEnd 6 s at) × (at
 abbrev μ-loop : tie.MeasureT-loop
 μ-loop s at i₀ left₀ i left = left
 
-loop-holds : tie.Need-loop-holds Inv-loop μ-loop
-loop-holds c = (refl, omega arith, omega arith)
-
-class-at-requires : tie.Need-class-at-requires Inv-loop μ-loop
-class-at-requires c κs = search needs
-
-goes-on-name-requires : tie.Need-goes-on-name-requires Inv-loop μ-loop
-goes-on-name-requires c κs = search needs
-
 -- the test in the loop is whether the name goes on
 going : (c : tie.After-goes-on-name Inv-loop μ-loop) → c .goes-on-name .result ≡ goesOnAt (c .before .before .before .before .before .args .s .now) (c .before .before .before .loop .i)
 going c = c .goes-on-name .ensures ∙ ap goesOnName (c .before .class-at .ensures)
@@ -44,12 +35,6 @@ returns c = (sym (run-stop goesOn (c .before .before .before .before .loop .left
 
 add-i : tie.Need-add-i Inv-loop μ-loop
 add-i c = omega (arith, inside-name (c .before .before .before .before .before .before .args .s .now) (c .before .before .before .before .loop .i) (sym (going (c .before)) ∙ not-false _ (c .if1 .left)))
-
-sub-left : tie.Need-sub-left Inv-loop μ-loop
-sub-left c = omega arith
-
-loop-less : tie.Need-loop-less Inv-loop μ-loop
-loop-less c = omega arith
 
 loop-again : tie.Need-loop-again Inv-loop μ-loop
 loop-again c = let on : goesOnAt (c .before .before .before .before .before .before .args .s .now) (c .before .before .before .before .loop .i) ≡ true = sym (going (c .before)) ∙ not-false _ (c .if1 .left) in
@@ -65,12 +50,12 @@ name-end-spec =
     (tie.spec
     Inv-loop
     μ-loop
-    loop-holds
-    class-at-requires
-    goes-on-name-requires
+    (λ c. (refl, omega arith, omega arith))
+    (λ c κs. search needs)
+    (λ c κs. search needs)
     returns
     add-i
-    sub-left
-    loop-less
+    (λ c. omega arith)
+    (λ c. omega arith)
     loop-again
     returns-2)

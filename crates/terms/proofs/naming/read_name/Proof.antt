@@ -10,12 +10,6 @@ use borrow.Author.Needs.{needs}
 use Rattle.terms.proofs.naming.read_name.Statement.{statement}
 use Rattle.terms.proofs.naming.read_name.Tie as tie
 
-class-at-requires : tie.Need-class-at-requires
-class-at-requires c κs = search needs
-
-starts-name-requires : tie.Need-starts-name-requires
-starts-name-requires c κs = search needs
-
 -- the tests are whether a name starts, and whether it goes on behind its six characters
 starting : (c : tie.After-starts-name) → c .starts-name .result ≡ startsAt (c .before .before .before .args .s .now) (c .before .before .before .args .at)
 starting c = c .starts-name .ensures ∙ ap startsName (c .before .class-at .ensures)
@@ -30,18 +24,9 @@ returns c = rw (sym (starting (c .before)) ∙ not-true _ (c .if1 .taken))
 name-end-requires : tie.Need-name-end-requires
 name-end-requires c κs = omega (arith, inside-start (c .before .before .before .before .args .s .now) (c .before .before .before .before .args .at) (sym (starting (c .before)) ∙ not-false _ (c .if1 .left)))
 
-class-at-requires-2 : tie.Need-class-at-requires-2
-class-at-requires-2 c κs = search needs
-
-goes-on-name-requires : tie.Need-goes-on-name-requires
-goes-on-name-requires c κs = search needs
-
 returns-2 : tie.Need-returns-2
 unfolding nameAt
 returns-2 c = rw (sym (starting (c .before .before .before .before .before)) ∙ not-false _ (c .before .before .before .before .if1 .left), sym (c .before .before .before .name-end .ensures .0), sym (going (c .before)) ∙ c .if2 .taken)
-
-name-number-requires : tie.Need-name-number-requires
-name-number-requires c κs = search needs
 
 returns-3 : tie.Need-returns-3
 unfolding nameAt
@@ -51,12 +36,12 @@ pub read-name-spec : {M : Type 1} → statement M
 read-name-spec =
     tie.close
     (tie.spec
-    class-at-requires
-    starts-name-requires
+    (λ c κs. search needs)
+    (λ c κs. search needs)
     returns
     name-end-requires
-    class-at-requires-2
-    goes-on-name-requires
+    (λ c κs. search needs)
+    (λ c κs. search needs)
     returns-2
-    name-number-requires
+    (λ c κs. search needs)
     returns-3)

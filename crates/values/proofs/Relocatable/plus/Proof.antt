@@ -5,18 +5,6 @@ use borrow.Author.Needs.{needs}
 use Rattle.values.proofs.Relocatable.plus.Statement.{statement}
 use Rattle.values.proofs.Relocatable.plus.Tie as tie
 
-cast-sum : tie.Need-cast-sum
-cast-sum c = search needs
-
-cast-sum-2 : tie.Need-cast-sum-2
-cast-sum-2 c = search needs
-
-add-sum : tie.Need-add-sum
-add-sum c = search needs
-
-cast-t8 : tie.Need-cast-t8
-cast-t8 c = search needs
-
 returns : tie.Need-returns
 unfolding movedBy
 returns c = simp (le-leb _ _ (c .if1 .taken))
@@ -26,4 +14,12 @@ unfolding movedBy
 returns-2 c = simp (lt-leb _ _ (c .if1 .left))
 
 pub plus-spec : {M : Type 1} → statement M
-plus-spec = tie.close (tie.spec cast-sum cast-sum-2 add-sum cast-t8 returns returns-2)
+plus-spec =
+    tie.close
+    (tie.spec
+    (λ c. search needs)
+    (λ c. search needs)
+    (λ c. search needs)
+    (λ c. search needs)
+    returns
+    returns-2)

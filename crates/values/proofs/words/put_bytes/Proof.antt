@@ -15,30 +15,9 @@ Inv-loop m₀ at bytes i₀ m i = (i ≤ length bytes) × (length m ≡ length m
 abbrev μ-loop : tie.MeasureT-loop
 μ-loop m₀ at bytes i₀ m i = length bytes - i
 
-loop-holds : tie.Need-loop-holds Inv-loop μ-loop
-loop-holds c = (omega arith, omega arith, rw add-zero)
-
-shared-slice-read-m : tie.Need-shared-slice-read-m Inv-loop μ-loop
-shared-slice-read-m c = omega arith
-
-add-m : tie.Need-add-m Inv-loop μ-loop
-add-m c = omega arith
-
-slice-write-m : tie.Need-slice-write-m Inv-loop μ-loop
-slice-write-m c = omega arith
-
-add-i : tie.Need-add-i Inv-loop μ-loop
-add-i c = omega arith
-
-loop-less : tie.Need-loop-less Inv-loop μ-loop
-loop-less c = omega arith
-
 loop-again : tie.Need-loop-again Inv-loop μ-loop
 loop-again c = let l = c .before .before .loop in let a = c .before .before .before .args in
     (omega arith, simp length-set (l .inv .1), l .inv .2 ∙ sets-turn (l .m) (a .at) (l .i) (a .bytes .now) (omega arith))
-
-same-length : tie.Need-same-length Inv-loop μ-loop
-same-length c = c .before .loop .inv .1
 
 returns : tie.Need-returns Inv-loop μ-loop
 returns c = let l = c .before .loop in let a = c .before .before .args in sym (l .inv .2 ∙ sets-done (l .m) (a .at + l .i) (a .bytes .now) (l .i) (omega arith))
@@ -49,12 +28,12 @@ put-bytes-spec =
     (tie.spec
     Inv-loop
     μ-loop
-    loop-holds
-    shared-slice-read-m
-    add-m
-    slice-write-m
-    add-i
-    loop-less
+    (λ c. (omega arith, omega arith, rw add-zero))
+    (λ c. omega arith)
+    (λ c. omega arith)
+    (λ c. omega arith)
+    (λ c. omega arith)
+    (λ c. omega arith)
     loop-again
-    same-length
+    (λ c. c .before .loop .inv .1)
     returns)
