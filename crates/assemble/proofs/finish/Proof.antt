@@ -1,6 +1,4 @@
 -- `finish` meets its contract: what was judged tells what was checked, and judging lays nothing.
--- `finish` meets its contract: what was judged tells what was checked, and judging lays nothing.
--- `finish` meets its contract: what was judged tells what was checked, and judging lays nothing.
 use mathlib.Core.Path.{sym, ap}
 use native.Mathlib.Omega.{arith}
 use lib.ListN.{length}

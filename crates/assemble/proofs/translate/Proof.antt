@@ -1,6 +1,4 @@
 -- `translate` meets its contract: what pass one comes to, and what pass two makes of its names.
--- `translate` meets its contract: what pass one comes to, and what pass two makes of its names.
--- `translate` meets its contract: what pass one comes to, and what pass two makes of its names.
 use mathlib.Core.Path.{sym, ap, _∙_}
 use native.Mathlib.Omega.{arith}
 use Rattle.names.proofs.Table.{names-length}

@@ -1,7 +1,5 @@
 -- `write` meets its contract: the size it is given is the length of the book.
 use Rattle.pass_two.specs.Code.{bytesIn}
--- `write` meets its contract: the size it is given is the length of the book.
--- `write` meets its contract: the size it is given is the length of the book.
 use Rattle.assemble.proofs.Ways.{past-output, book-written}
 use borrow.Author.Needs.{needs}
 use Rattle.assemble.proofs.write.Statement.{statement}

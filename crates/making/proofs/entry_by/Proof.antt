@@ -1,5 +1,4 @@
 -- `entry_by` meets its contract: a relocatable value, or none.
--- `entry_by` meets its contract: a relocatable value, or none.
 use mathlib.Core.Path.{sym, ap, _∙_}
 use Rattle.passes.specs.Two.{entryOf}
 use borrow.Author.Needs.{needs}

@@ -3,7 +3,6 @@ use mathlib.Core.Path.{ap, _∙_}
 use Rattle.operations.specs.Traits.{roleOf}
 use Rattle.making.specs.Steps.{textFrom, soughtBy, courseBy, madeBy}
 use Rattle.making.proofs.Cards.{made-line}
--- `make_line` meets its contract: its operand lies inside the card.
 use Rattle.lines.proofs.Laws.{line-within}
 use borrow.Author.Needs.{needs}
 use Rattle.making.proofs.make_line.Statement.{statement}

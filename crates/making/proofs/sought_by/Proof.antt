@@ -1,5 +1,4 @@
 -- `sought_by` meets its contract: only END says an entry.
--- `sought_by` meets its contract: only END says an entry.
 use mathlib.Core.List.{_∷_, []}
 use types.Run.{OneOf, miss}
 use denote.Enum.Declared.{tagOf}

@@ -1,5 +1,4 @@
 -- `early_in` meets its contract: only a statement has an operand, which lies inside the card.
--- `early_in` meets its contract: only a statement has an operand, which lies inside the card.
 use Prim.Native.Nat.{ℕ}
 use mathlib.Core.List.{List, _∷_, []}
 use mathlib.Core.Path.{_≡_, refl, _∙_}

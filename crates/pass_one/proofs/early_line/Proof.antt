@@ -1,5 +1,4 @@
 -- `early_line` meets its contract: EQU and ORG, or another role.
--- `early_line` meets its contract: EQU and ORG, or another role.
 use mathlib.Core.List.{_∷_, []}
 use types.Run.{OneOf, miss}
 use denote.Enum.Declared.{tagOf}

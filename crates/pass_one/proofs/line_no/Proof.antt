@@ -1,5 +1,4 @@
 -- `line_no` meets its contract: each rule in its order.
--- `line_no` meets its contract: each rule in its order.
 use Rattle.pass_one.specs.Code.{lineBy}
 use borrow.Author.Needs.{needs}
 use Rattle.pass_one.proofs.line_no.Statement.{statement}

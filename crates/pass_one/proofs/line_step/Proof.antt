@@ -1,5 +1,4 @@
 -- `line_step` meets its contract: the counter and the names of a line that is let through.
--- `line_step` meets its contract: the counter and the names of a line that is let through.
 use native.Mathlib.Omega.{arith}
 use Rattle.pass_one.specs.Code.{standsFor}
 use Rattle.pass_one.proofs.Laws.{line-enters, line-steps}

@@ -1,5 +1,4 @@
 -- `one_no` meets its contract: each rule in its order.
--- `one_no` meets its contract: each rule in its order.
 use Rattle.passes.specs.One.{oneNo}
 use Rattle.pass_one.specs.Code.{standsFor}
 use Rattle.pass_one.proofs.Laws.{read-no}

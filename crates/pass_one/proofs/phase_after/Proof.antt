@@ -1,5 +1,4 @@
 -- `phase_after` meets its contract: START and END, or another role.
--- `phase_after` meets its contract: START and END, or another role.
 use mathlib.Core.List.{_∷_, []}
 use types.Run.{OneOf, miss}
 use denote.Enum.Declared.{tagOf}

@@ -1,5 +1,4 @@
 -- `reading_no` meets its contract, case by case.
--- `reading_no` meets its contract, case by case.
 use borrow.Author.Needs.{needs}
 use Rattle.pass_one.proofs.reading_no.Statement.{statement}
 use Rattle.pass_one.proofs.reading_no.Tie as tie

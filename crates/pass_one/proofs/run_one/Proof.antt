@@ -1,5 +1,4 @@
 -- `run_one` meets its contract: its invariant is `Ran`.
--- `run_one` meets its contract: its invariant is `Ran`.
 use mathlib.Core.Path.{_≡_, refl, sym, ap, _∙_}
 use native.Mathlib.Omega.{arith}
 use borrow.Author.Needs.{needs}

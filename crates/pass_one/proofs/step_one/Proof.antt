@@ -1,5 +1,4 @@
 -- `step_one` meets its contract, by the card's reading.
--- `step_one` meets its contract, by the card's reading.
 use mathlib.Core.Path.{_≡_, refl, subst}
 use Rattle.pass_one.specs.Code.{standsFor, readingBy, nameFits}
 use borrow.Author.Needs.{needs}

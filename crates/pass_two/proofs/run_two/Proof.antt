@@ -4,10 +4,7 @@ use Rattle.book.specs.Writing.{recordsBytes}
 use Rattle.cards.specs.Source.{columnsOf}
 use Rattle.passes.specs.Two.{outset, checkTwo, cardRecords, entryFrom}
 use Rattle.pass_two.specs.Code.{checkedIn, bytesIn, judgedAs}
--- `run_two` meets its contract: its invariant is `Walked`.
 use Rattle.pass_two.proofs.Walk.{Walked, walk-sound, walk-fits, walk-room, walk-nothing, walk-stop, walk-bad, walk-on, walk-clean, walk-size, walk-long, walk-header}
--- `run_two` meets its contract: its invariant is `Walked`.
--- `run_two` meets its contract: its invariant is `Walked`.
 use mathlib.Core.Path.{_≡_, refl, sym, ap, _∙_}
 use native.Mathlib.Omega.{arith}
 use borrow.Author.Needs.{needs}
