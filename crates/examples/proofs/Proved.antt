@@ -14,8 +14,8 @@ use Rattle.expressions.specs.Form.{factorsFrom, factorsAt, productAt, productsF
 use Rattle.expressions.specs.Value.{times, timesOut, anyRelocatable, anyUndefined, added, subtracted, afterPlus, afterMinus, anyOut, anyMixed, anyUnknown, valueOf, evaluated}
 use Rattle.cards.specs.Fields.{allAccepted, byteNo, operandEnd, fieldsBehind, cardOf}
 use Rattle.operations.specs.Codes.{twoAddress, oneAddress, branch}
-use Rattle.operations.specs.Model10.{ownOperations, twoAddresses, oneAddresses, branches, jumps, extendedMoves, extendedBranches, extendedJumps, model10}
-use Rattle.operations.specs.Rows.{lettersOf, number5, operationIn, wordLetter, wordNumber, operationAt}
+use Rattle.mnemonics.specs.Model10.{ownOperations, twoAddresses, oneAddresses, branches, jumps, extendedMoves, extendedBranches, extendedJumps, model10}
+use Rattle.mnemonics.specs.Rows.{lettersOf, number5, operationIn, wordLetter, wordNumber, operationAt}
 use Rattle.book.specs.Book.{fieldsFit, fair, recordOk, recordsFrom, headerOk, entryAt, bookOf}
 use Rattle.book.specs.Writing.{recordBytes, recordsBytes, bookBytes}
 use Rattle.fields.specs.Fields.{movedIn, overIn}

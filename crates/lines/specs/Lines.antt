@@ -6,8 +6,8 @@ use Rattle.cards.specs.declared.Fields.{Fields}
 use Rattle.cards.specs.declared.Card.{Card}
 use Rattle.cards.specs.declared.Card.the-variants.{Comment as CardComment, BadName as CardBadName, Statement as CardStatement}
 use Rattle.cards.specs.Fields.{cardOf}
-use Rattle.operations.specs.Rows.{operationAt}
-use Rattle.operations.specs.Model10.{model10}
+use Rattle.mnemonics.specs.Rows.{operationAt}
+use Rattle.mnemonics.specs.Model10.{model10}
 use Rattle.forms.specs.declared.Shape.{Shape}
 use Rattle.forms.specs.declared.Shape.the-variants.{Fails, Nothing, StartAt, Expression, Pair, Target, TwoAddresses, AddressAndCode, LoneAddress, Data}
 use Rattle.forms.specs.Shape.{shapeOf}

@@ -1,5 +1,2 @@
--- The rules of the operation table, and the laws that other crates cite.
-pub mod Search
-pub mod Table
-pub mod Charts
+-- The laws that other crates cite.
 pub mod RowLaws

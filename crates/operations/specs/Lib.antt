@@ -1,6 +1,2 @@
-pub mod Rows
-pub mod Model10
-pub mod Sorted
 pub mod Traits
 pub mod Codes
-pub mod Charts

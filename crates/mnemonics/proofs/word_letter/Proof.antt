@@ -1,11 +1,11 @@
 -- `word_letter` meets its contract.
 use native.Mathlib.Omega.{arith}
 use borrow.Author.Tests.{lt-ltb, le-ltb}
-use Rattle.operations.specs.Rows.{wordLetter}
+use Rattle.mnemonics.specs.Rows.{wordLetter}
 use Prim.Native.Nat.{_+_, _-_}
 use borrow.Author.Needs.{needs}
-use Rattle.operations.proofs.word_letter.Statement.{statement}
-use Rattle.operations.proofs.word_letter.Tie as tie
+use Rattle.mnemonics.proofs.word_letter.Statement.{statement}
+use Rattle.mnemonics.proofs.word_letter.Tie as tie
 
 returns : tie.Need-returns
 unfolding wordLetter

@@ -1,9 +1,9 @@
 -- `number_of` meets its contract.
 use native.Mathlib.Omega.{arith}
-use Rattle.operations.specs.Rows.{number5}
+use Rattle.mnemonics.specs.Rows.{number5}
 use borrow.Author.Needs.{needs}
-use Rattle.operations.proofs.number_of.Statement.{statement}
-use Rattle.operations.proofs.number_of.Tie as tie
+use Rattle.mnemonics.proofs.number_of.Statement.{statement}
+use Rattle.mnemonics.proofs.number_of.Tie as tie
 
 returns : tie.Need-returns
 unfolding number5

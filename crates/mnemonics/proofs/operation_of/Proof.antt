@@ -1,12 +1,12 @@
 -- `operation_of` meets its contract, by the table's rule.
 use mathlib.Core.Path.{ap, _∙_}
 use lib.ListN.{getD}
-use Rattle.operations.specs.Sorted.{sortedOperations}
+use Rattle.mnemonics.specs.Sorted.{sortedOperations}
 use Rattle.operations.specs.declared.Operation.the-variants.{Unknown}
-use Rattle.operations.proofs.Table.{by-row}
+use Rattle.mnemonics.proofs.Table.{by-row}
 use borrow.Author.Needs.{needs}
-use Rattle.operations.proofs.operation_of.Statement.{statement}
-use Rattle.operations.proofs.operation_of.Tie as tie
+use Rattle.mnemonics.proofs.operation_of.Statement.{statement}
+use Rattle.mnemonics.proofs.operation_of.Tie as tie
 
 returns : tie.Need-returns
 returns c = c .operation-in .ensures ∙ ap (λ i. getD sortedOperations i Unknown) (c .before .row-of .ensures) ∙ by-row (c .before .before .args .key)

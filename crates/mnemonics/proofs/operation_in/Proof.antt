@@ -1,13 +1,13 @@
 -- `operation_in` meets its contract: the constant is the list beside the letters.
 use mathlib.Core.Path.{refl, sym}
 use lib.ListN.{List·getD-eq-default}
-use Rattle.operations.specs.Sorted.{inserted, sorted, sortedOperations}
-use Rattle.operations.specs.Rows.{lettersOf, number5}
-use Rattle.operations.specs.Model10.{model10, ownOperations, twoAddresses, oneAddresses, branches, jumps, extendedMoves, extendedBranches, extendedJumps}
+use Rattle.mnemonics.specs.Sorted.{inserted, sorted, sortedOperations}
+use Rattle.mnemonics.specs.Rows.{lettersOf, number5}
+use Rattle.mnemonics.specs.Model10.{model10, ownOperations, twoAddresses, oneAddresses, branches, jumps, extendedMoves, extendedBranches, extendedJumps}
 use Rattle.operations.specs.declared.Operation.the-variants.{Unknown}
 use borrow.Author.Needs.{needs}
-use Rattle.operations.proofs.operation_in.Statement.{statement}
-use Rattle.operations.proofs.operation_in.Tie as tie
+use Rattle.mnemonics.proofs.operation_in.Statement.{statement}
+use Rattle.mnemonics.proofs.operation_in.Tie as tie
 
 returns : tie.Need-returns
 unfolding sortedOperations sorted inserted model10 ownOperations twoAddresses oneAddresses branches jumps extendedMoves extendedBranches extendedJumps lettersOf number5

@@ -2,12 +2,12 @@
 use Prim.Native.Nat.{ℕ}
 use Prim.Native.String.{String}
 use mathlib.Core.List.{List, [], _∷_}
-use Rattle.operations.specs.Rows.{lettersOf}
+use Rattle.mnemonics.specs.Rows.{lettersOf}
 use Rattle.operations.specs.Traits.{traitsOf}
 use Rattle.operations.specs.Codes.{twoAddress, oneAddress, branch}
 use Rattle.operations.specs.declared.Operation.{Operation}
 use Rattle.operations.specs.declared.traits.Opcode.{Opcode}
 use Rattle.operations.specs.declared.traits.Opcode.the-variants.{NoByte, ByTwoModes, ByOneMode, ByBranchMode, Fixed}
 
 -- a chart: a mnemonic and the operation bytes that it may have
 pub record Chart : Type 0 where

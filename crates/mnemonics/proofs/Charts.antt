@@ -5,12 +5,12 @@ use mathlib.Core.Path.{_≡_, refl}
 use mathlib.Core.Bool.{Bool, true, false, not}
 use lib.Dec.{eqb}
 use Rattle.values.specs.Tests.{both, either}
 use Rattle.operations.specs.declared.Operation.{Operation}
 use Rattle.operations.specs.declared.Operation.the-variants.{Branch, HalfBytes, Jump}
-use Rattle.operations.specs.Rows.{Row, lettersOf, number5, operationIn}
+use Rattle.mnemonics.specs.Rows.{Row, lettersOf, number5, operationIn}
 use Rattle.operations.specs.Codes.{twoAddress, oneAddress, branch}
-use Rattle.operations.specs.Charts.{Chart, charts, bytesOf}
-use Rattle.operations.specs.Model10.{ownOperations, twoAddresses, oneAddresses, branches, jumps, extendedMoves, extendedBranches, extendedJumps, model10}
+use Rattle.mnemonics.specs.Charts.{Chart, charts, bytesOf}
+use Rattle.mnemonics.specs.Model10.{ownOperations, twoAddresses, oneAddresses, branches, jumps, extendedMoves, extendedBranches, extendedJumps, model10}
 
 -- the bytes of a chart, as the manual has them and as the formula gives them
 abbrev pub charted : Chart → List ℕ

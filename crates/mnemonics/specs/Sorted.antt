@@ -4,9 +4,9 @@ use mathlib.Core.List.{List, [], _∷_, map}
 use lib.ListN.{length, getD}
 use lib.Dec.{ltb, eqb}
 use Rattle.values.specs.Tests.{pick}
-use Rattle.operations.specs.Rows.{number5, Row}
-use Rattle.operations.specs.Model10.{model10}
+use Rattle.mnemonics.specs.Rows.{number5, Row}
+use Rattle.mnemonics.specs.Model10.{model10}
 use Rattle.operations.specs.declared.Operation.{Operation}
 
 -- the number of the letters in a row
 abbrev pub keyAt : List (List ℕ) → ℕ → ℕ

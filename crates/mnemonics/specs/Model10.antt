@@ -1,7 +1,7 @@
 -- R4.3 to R4.5: the operations of a Model 10: the assembler's own, the instructions by their kinds, the extended mnemonics.
 use mathlib.Core.List.{List, [], _∷_, _++_}
-use Rattle.operations.specs.Rows.{Row, row}
+use Rattle.mnemonics.specs.Rows.{Row, row}
 use Rattle.operations.specs.declared.Operation.the-variants.{Start, Equ, Org, Dc, Ds, Using, Drop, End, TwoLengths, OneLength, HalfBytes, HalfBytesOf, OneAddress, Branch, LoadAddress, BranchOn, Jump, JumpOn}
 
 -- R4.3: the assembler's own
 unfoldable pub ownOperations : List Row

@@ -11,7 +11,7 @@ use lib.Dec.{ltb, eqb}
 use lib.ListN.{length}
 use Rattle.values.specs.Tests.{pick}
 use Rattle.letters.proofs.Every.{every, at}
-use Rattle.operations.specs.Sorted.{keyAt, rowFrom, rowIn, Rising}
+use Rattle.mnemonics.specs.Sorted.{keyAt, rowFrom, rowIn, Rising}
 
 -- THE FIRST ROW WITH A NUMBER
 

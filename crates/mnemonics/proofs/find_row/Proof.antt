@@ -4,10 +4,10 @@ use mathlib.Core.Path.{_≡_, sym, _∙_}
 use Prim.Native.Nat.{ℕ, _+_, _-_, _/_, _≤_, _<_}
 use borrow.Author.Needs.{needs}
 use lib.ListN.{length}
-use Rattle.operations.specs.Sorted.{keyAt}
-use Rattle.operations.proofs.Search.{found, absent, lower-half, upper-half}
-use Rattle.operations.proofs.find_row.Statement.{statement}
-use Rattle.operations.proofs.find_row.Tie as tie
+use Rattle.mnemonics.specs.Sorted.{keyAt}
+use Rattle.mnemonics.proofs.Search.{found, absent, lower-half, upper-half}
+use Rattle.mnemonics.proofs.find_row.Statement.{statement}
+use Rattle.mnemonics.proofs.find_row.Tie as tie
 
 abbrev Inv-loop : tie.InvT-loop
 Inv-loop rows key low₀ high₀ low high = (low ≤ high) × (high ≤ length rows) × ((i : ℕ) → i < low → keyAt rows i < key) × ((i : ℕ) → high ≤ i → i < length rows → key < keyAt rows i)

@@ -2,12 +2,12 @@
 use native.Mathlib.Omega.{arith}
 use mathlib.Core.Path.{ap, _∙_}
 use borrow.Author.Tests.{le-leb, lt-leb}
-use Rattle.operations.specs.Rows.{operationIn, operationAt}
-use Rattle.operations.specs.Model10.{model10}
+use Rattle.mnemonics.specs.Rows.{operationIn, operationAt}
+use Rattle.mnemonics.specs.Model10.{model10}
 use Prim.Native.Nat.{_-_}
 use borrow.Author.Needs.{needs}
-use Rattle.operations.proofs.operation_at.Statement.{statement}
-use Rattle.operations.proofs.operation_at.Tie as tie
+use Rattle.mnemonics.proofs.operation_at.Statement.{statement}
+use Rattle.mnemonics.proofs.operation_at.Tie as tie
 
 returns : tie.Need-returns
 unfolding operationAt

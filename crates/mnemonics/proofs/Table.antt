@@ -10,12 +10,12 @@ use lib.Dec.{ltb, eqb}
 use lib.ListN.{length, getD, List·getD-eq-default, List·getD-map}
 use Rattle.values.specs.Tests.{pick, both}
 use Rattle.letters.proofs.Every.{every}
-use Rattle.operations.specs.Rows.{lettersOf, five, number5, Row, operationIn}
-use Rattle.operations.specs.Model10.{ownOperations, twoAddresses, oneAddresses, branches, jumps, extendedMoves, extendedBranches, extendedJumps, model10}
-use Rattle.operations.specs.Sorted.{keyAt, rowFrom, rowIn, Rising, inserted, sorted, sortedLetters, sortedOperations}
+use Rattle.mnemonics.specs.Rows.{lettersOf, five, number5, Row, operationIn}
+use Rattle.mnemonics.specs.Model10.{ownOperations, twoAddresses, oneAddresses, branches, jumps, extendedMoves, extendedBranches, extendedJumps, model10}
+use Rattle.mnemonics.specs.Sorted.{keyAt, rowFrom, rowIn, Rising, inserted, sorted, sortedLetters, sortedOperations}
 use Rattle.operations.specs.declared.Operation.{Operation}
 use Rattle.operations.specs.declared.Operation.the-variants.{Unknown}
-use Rattle.operations.proofs.Search.{row-found, rises, rising-by}
+use Rattle.mnemonics.proofs.Search.{row-found, rises, rising-by}
 use Rattle.values.proofs.Laws.{both-true, Bytes, base256-same}
 
 -- THE LETTERS RISE

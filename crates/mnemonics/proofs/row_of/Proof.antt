@@ -1,11 +1,11 @@
 -- `row_of` meets its contract: the table's letters rise.
-use Rattle.operations.specs.Sorted.{inserted, sorted, sortedLetters}
-use Rattle.operations.specs.Rows.{lettersOf, number5}
-use Rattle.operations.specs.Model10.{model10, ownOperations, twoAddresses, oneAddresses, branches, jumps, extendedMoves, extendedBranches, extendedJumps}
-use Rattle.operations.proofs.Table.{sorted-rising}
+use Rattle.mnemonics.specs.Sorted.{inserted, sorted, sortedLetters}
+use Rattle.mnemonics.specs.Rows.{lettersOf, number5}
+use Rattle.mnemonics.specs.Model10.{model10, ownOperations, twoAddresses, oneAddresses, branches, jumps, extendedMoves, extendedBranches, extendedJumps}
+use Rattle.mnemonics.proofs.Table.{sorted-rising}
 use borrow.Author.Needs.{needs}
-use Rattle.operations.proofs.row_of.Statement.{statement}
-use Rattle.operations.proofs.row_of.Tie as tie
+use Rattle.mnemonics.proofs.row_of.Statement.{statement}
+use Rattle.mnemonics.proofs.row_of.Tie as tie
 
 find-row-requires : tie.Need-find-row-requires
 unfolding sortedLetters sorted inserted model10 ownOperations twoAddresses oneAddresses branches jumps extendedMoves extendedBranches extendedJumps lettersOf number5

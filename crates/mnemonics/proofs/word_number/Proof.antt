@@ -1,9 +1,9 @@
 -- `word_number` meets its contract: five letters, base 256.
 use mathlib.Core.Path.{sym}
-use Rattle.operations.specs.Rows.{wordNumber}
+use Rattle.mnemonics.specs.Rows.{wordNumber}
 use borrow.Author.Needs.{needs}
-use Rattle.operations.proofs.word_number.Statement.{statement}
-use Rattle.operations.proofs.word_number.Tie as tie
+use Rattle.mnemonics.proofs.word_number.Statement.{statement}
+use Rattle.mnemonics.proofs.word_number.Tie as tie
 
 returns : tie.Need-returns
 unfolding wordNumber

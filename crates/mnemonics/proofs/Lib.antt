@@ -1,0 +1,4 @@
+-- The rules of the operation table.
+pub mod Search
+pub mod Table
+pub mod Charts
