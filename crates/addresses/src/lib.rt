@@ -1,4 +1,6 @@
 // An address at a position of an operand: an expression, and the items in parentheses behind it, from the columns alone.
+#![tactic(auto)]
+
 ghost use Rattle.std.specs.Prelude.{◌≡◌};
 ghost use Rattle.addresses.specs.Address.{closed, register_at, behind_length, length_at, or_register, items_at, plain, behind_address, address_at};
 
@@ -6,14 +8,14 @@ use expressions::form::{Form, expression_form};
 use letters::byte_at;
 
 // An item in parentheses: where its expression starts, if it is written.
-#[derive(Drop)]
+#[derive(Clone, Copy)]
 pub enum Item {
     Absent,
     At(usize),
 }
 
 // An address, E, E(L), E(L,R), E(,R) or E(R): where each expression starts.
-#[derive(Drop)]
+#[derive(Clone, Copy)]
 pub struct Address {
     pub at: usize,
     pub length: Item,
@@ -21,7 +23,7 @@ pub struct Address {
 }
 
 // What may be written in parentheses behind E.
-#[derive(Drop)]
+#[derive(Clone, Copy)]
 pub enum Allowed {
     // E(L), E(L,R), E(,R), E
     MayHaveLength,
@@ -34,7 +36,7 @@ pub enum Allowed {
 }
 
 // An address that was read and the position behind it; or the first position at which it could not go on.
-#[derive(Drop)]
+#[derive(Clone, Copy)]
 pub enum Addressed {
     Reads(Address, usize),
     Stops(usize),

@@ -1,4 +1,6 @@
 // The whole assembly: refusals 1, 2 and 3, both passes, 30, the book; then the work area is cleared.
+#![tactic(auto)]
+
 ghost use Rattle.std.specs.Prelude.{◌≡◌, true, ◌*◌, ◌^◌, ◌≤◌, ◌<◌, length, drop};
 ghost use Rattle.names.specs.Names.{ascending};
 ghost use Rattle.names.specs.Table.{names_in};

@@ -1,4 +1,6 @@
 // R16, the book: its header, and its records read one at a time.
+#![tactic(auto)]
+
 pub mod writing;
 
 ghost use Rattle.std.specs.Prelude.{◌≡◌, ◌+◌, ◌<◌};
@@ -15,14 +17,14 @@ pub const REST_HEAD: usize = 5;
 pub const RECORD_HEAD: usize = 7;
 
 // Where the program starts, if its END card said so.
-#[derive(Drop)]
+#[derive(Clone, Copy)]
 pub enum Entry {
     Absent,
     At(Relocatable),
 }
 
 // Where the parts of a record stand in the book, with its card and address.
-#[derive(Drop)]
+#[derive(Clone, Copy)]
 pub struct Place {
     pub card: u16,
     pub address: Relocatable,
@@ -33,13 +35,13 @@ pub struct Place {
 }
 
 // The place that a reader has got to, and the card of the record before it.
-#[derive(Drop)]
+#[derive(Clone, Copy)]
 pub struct Cursor {
     pub at: usize,
     pub card: u16,
 }
 
-#[derive(Drop)]
+#[derive(Clone, Copy)]
 pub enum Step {
     Record(Place, Cursor),
     End,
@@ -47,7 +49,7 @@ pub enum Step {
 }
 
 // Whether the layout is kept, of the header or of the whole book; then the entry.
-#[derive(Drop)]
+#[derive(Clone, Copy)]
 pub enum Layout {
     Whole(Entry),
     Broken,

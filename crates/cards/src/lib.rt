@@ -1,4 +1,6 @@
 // Cards: a source as a run of them, and one card's statement columns taken apart.
+#![tactic(auto)]
+
 pub mod source;
 
 ghost use Rattle.std.specs.Prelude.{◌≡◌, false, not, ◌-◌, ◌≤◌, length};
@@ -10,7 +12,7 @@ use letters::{byte_at, class_at};
 use terms::naming::NameRead;
 
 // The fields of a statement: the name's number, 0 where there is none, and where operation and operand start and end. An absent one ends where it starts.
-#[derive(Drop)]
+#[derive(Clone, Copy)]
 pub struct Fields {
     pub name: u64,
     pub operation: usize,
@@ -19,7 +21,7 @@ pub struct Fields {
     pub end: usize,
 }
 
-#[derive(Drop)]
+#[derive(Clone, Copy)]
 pub enum Card {
     Comment,
     BadName,

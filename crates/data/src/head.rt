@@ -6,21 +6,21 @@ use crate::DataType;
 use crate::runs::{digits_end, number_in};
 use letters::byte_at;
 
-#[derive(Drop)]
+#[derive(Clone, Copy)]
 pub enum Typed {
     Of(DataType),
     Nothing,
 }
 
 // A length as it is written, if it is.
-#[derive(Drop)]
+#[derive(Clone, Copy)]
 pub enum WrittenLength {
     Absent,
     As(u32),
 }
 
 // Copies, type and length, and the position behind them.
-#[derive(Drop)]
+#[derive(Clone, Copy)]
 pub struct Head {
     pub kind: DataType,
     pub copies: u32,
@@ -28,7 +28,7 @@ pub struct Head {
     pub next: usize,
 }
 
-#[derive(Drop)]
+#[derive(Clone, Copy)]
 pub enum HeadForm {
     Fails(usize),
     Of(Head),

@@ -1,5 +1,7 @@
 // DC and DS operands: copies, type, length and value from the columns alone; their sizes and refusal 21; the text of a constant.
 // An operand is a slice of its own, and its end is the slice's end.
+#![tactic(auto)]
+
 pub mod head;
 pub mod runs;
 pub mod sizes;
@@ -12,7 +14,7 @@ ghost use Rattle.data.specs.Form.{written_or, constant_length, reserve_length, c
 use head::{Head, HeadForm, WrittenLength};
 use value::Extent;
 
-#[derive(Drop)]
+#[derive(Clone, Copy)]
 pub enum DataType {
     Characters,
     Hexadecimal,
@@ -21,7 +23,7 @@ pub enum DataType {
 }
 
 // A DC, which makes bytes, or a DS, which leaves room for them.
-#[derive(Drop)]
+#[derive(Clone, Copy)]
 pub enum DataCard {
     Constant,
     Reserve,
@@ -29,7 +31,7 @@ pub enum DataCard {
 
 // What an operand says. `count`: the characters or digits of its value; `value`: where the first of them, or the expression, stands.
 // Copies, length and count are told no further than 65536.
-#[derive(Drop)]
+#[derive(Clone, Copy)]
 pub struct Data {
     pub card: DataCard,
     pub kind: DataType,
@@ -40,7 +42,7 @@ pub struct Data {
 }
 
 // The operand, or the first position at which no operand of this form could go on.
-#[derive(Drop)]
+#[derive(Clone, Copy)]
 pub enum DataForm {
     Fails(usize),
     Of(Data),

@@ -9,7 +9,7 @@ use letters::byte_at;
 use terms::{Quoted, quoted_at};
 
 // How many characters or digits there are, and the position behind the closing apostrophe or parenthesis.
-#[derive(Drop)]
+#[derive(Clone, Copy)]
 pub enum Extent {
     Fails(usize),
     Of(u32, usize),

@@ -1,4 +1,6 @@
 // What a line's name stands for, and its place in the table of names.
+#![tactic(auto)]
+
 pub mod refusals;
 
 ghost use Rattle.std.specs.Prelude.{◌≡◌, true, ◌+◌, ◌-◌, ◌≤◌, length, drop};

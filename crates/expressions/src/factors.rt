@@ -10,7 +10,7 @@ use terms::{Term, read_term};
 use values::Value;
 
 // A term's value, whether it is relocatable, whether it is a name that is not defined.
-#[derive(Drop)]
+#[derive(Clone, Copy)]
 pub struct Factor {
     pub value: u32,
     pub relocatable: bool,

@@ -5,7 +5,7 @@ ghost use Rattle.expressions.specs.Form.{form_of, end_of, joins, factors_at, pro
 use letters::byte_at;
 use terms::{Term, read_term};
 
-#[derive(Drop)]
+#[derive(Clone, Copy)]
 pub enum Form {
     Ends(usize),
     Fails(usize),

@@ -1,4 +1,6 @@
 // An expression at a position of a card: its form from the columns alone, and its value over the names and the counter.
+#![tactic(auto)]
+
 pub mod factors;
 pub mod form;
 pub mod sums;
@@ -20,14 +22,14 @@ use values::{
     only_absolute, only_relocatable,
 };
 
-#[derive(Drop)]
+#[derive(Clone, Copy)]
 pub enum Kind {
     Absolute,
     Relocatable,
 }
 
 // What comes of an expression: a value; or 15, 18, 19, or 20 with the kind that the value would have.
-#[derive(Drop)]
+#[derive(Clone, Copy)]
 pub enum Evaluated {
     Good(Value),
     Malformed,
@@ -37,7 +39,7 @@ pub enum Evaluated {
 }
 
 // A product that was read, and the position behind it.
-#[derive(Drop)]
+#[derive(Clone, Copy)]
 pub enum Multiplied {
     Product(Held, usize),
     Fails,

@@ -7,7 +7,7 @@ ghost use Rattle.expressions.specs.Steps.{kept, begun, multiplied, summed, summe
 use crate::factors::Factor;
 
 // A product at hand.
-#[derive(Drop)]
+#[derive(Clone, Copy)]
 pub struct Held {
     pub value: u32,
     pub relocatable: bool,
@@ -17,7 +17,7 @@ pub struct Held {
 }
 
 // A sum on its way: the relocatable terms after plus and after minus, and what was found wrong.
-#[derive(Drop)]
+#[derive(Clone, Copy)]
 pub struct Running {
     pub sum: u32,
     pub plus: usize,

@@ -1,4 +1,6 @@
 // The listed fields of a record's text, moved by a displacement.
+#![tactic(auto)]
+
 ghost use Rattle.std.specs.Prelude.{◌≡◌, false, ◌+◌, ◌≤◌, ◌<◌, length, get_or};
 ghost use Rattle.std.proofs.lemmas.List.Edits.{sets};
 ghost use Rattle.values.specs.Values.{moved_by};

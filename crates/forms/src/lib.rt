@@ -1,5 +1,7 @@
 // The form of an operand, from its columns alone: where each expression of it starts, or the first position at which no operand of its form could go on.
 // An operand is a slice of its own, positions count from 0, and an absent operand is empty.
+#![tactic(auto)]
+
 ghost use Rattle.std.specs.Prelude.{◌≡◌, ◌≤◌, length};
 ghost use Rattle.forms.specs.Shape.{ended, last_at, start_term, start_of, start_shape, end_shape, pair_shape, unless_there, first_allowed, second_allowed, two_of, two_shape, one_shape, only_shape, constant_shape, reserve_shape, shape_by, shape_of};
 ghost use Rattle.forms.specs.Size.{address_size, size_of};
@@ -12,7 +14,7 @@ use operations::Operation;
 use operations::traits::{Lengths, Pattern, fixed_size, traits_of};
 use terms::Term;
 
-#[derive(Drop)]
+#[derive(Clone, Copy)]
 pub enum Shape {
     // Refusal 15, and the first position at which no operand of this form could go on.
     Fails(usize),

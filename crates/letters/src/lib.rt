@@ -1,9 +1,11 @@
 // The accepted characters of a card: the class of a byte, its EBCDIC code, its value as a digit.
+#![tactic(auto)]
+
 ghost use Rattle.std.specs.Prelude.{◌≡◌, ◌<◌, ◌≤◌, get_or};
 ghost use Rattle.letters.specs.Letters.{class_of, code_of, digit_of, starts_name, goes_on_name, is_blank, is_accepted};
 ghost use Rattle.letters.specs.Table.{place_of};
 
-#[derive(Drop)]
+#[derive(Clone, Copy)]
 pub enum Class {
     Letter,
     Digit,
@@ -16,7 +18,7 @@ pub enum Class {
 pub const BLANK_CODE: u8 = 0x40;
 
 // An ASCII byte and its EBCDIC code.
-#[derive(Drop)]
+#[derive(Clone, Copy)]
 pub struct Pair(pub u8, pub u8);
 
 // The accepted characters, by their ASCII bytes: 32 to 90, 95 and 124.

@@ -1,4 +1,6 @@
 // A card read whole: its name, its operation and the shape of its operand, from the columns alone.
+#![tactic(auto)]
+
 ghost use Rattle.std.specs.Prelude.{◌≡◌, ◌≤◌, length};
 ghost use Rattle.lines.specs.Lines.{line_of, reading_of, shape_no};
 
@@ -8,7 +10,7 @@ use mnemonics::operation_at;
 use operations::Operation;
 
 // A statement: the name's number, 0 where there is none, and where the operand starts and ends.
-#[derive(Drop)]
+#[derive(Clone, Copy)]
 pub struct Line {
     pub name: u64,
     pub operation: Operation,
@@ -17,7 +19,7 @@ pub struct Line {
     pub end: usize,
 }
 
-#[derive(Drop)]
+#[derive(Clone, Copy)]
 pub enum Reading {
     Comment,
     BadName,

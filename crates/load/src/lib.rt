@@ -1,4 +1,6 @@
 // Loading a book: 50, 51 and 52, each over the whole book before the next; then storing, record by record.
+#![tactic(auto)]
+
 ghost use Rattle.std.specs.Prelude.{◌≡◌, ◌≤◌};
 ghost use Rattle.values.specs.Values.{moved_by};
 ghost use Rattle.book.specs.Reading.{layout_of, record_there, records_in, Kept, Sound};
@@ -11,7 +13,7 @@ use fields::{over_field, put_moved};
 use values::words::wide16;
 use values::{Displacement, Moved};
 
-#[derive(Drop)]
+#[derive(Clone, Copy)]
 pub enum Loaded {
     // The bytes stored, and the entry plus the displacement.
     Stored(u32, Entry),
@@ -24,7 +26,7 @@ pub enum Loaded {
 }
 
 // What a record may fail before anything is stored.
-#[derive(Drop)]
+#[derive(Clone, Copy)]
 pub enum Test {
     // 51: its text lies outside so many bytes of storage.
     Outside(usize),

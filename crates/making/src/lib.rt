@@ -1,4 +1,6 @@
 // What pass two makes of a card: its refusal, where its text comes from, the entry if it is END, and where the pass stands behind it.
+#![tactic(auto)]
+
 pub mod records;
 
 ghost use Rattle.std.specs.Prelude.{◌≡◌, true, ◌+◌, ◌*◌, ◌^◌, ◌≤◌, ◌<◌, length};
@@ -23,21 +25,21 @@ use statements::{Statement, bases_after, lone_value, statement_from, statement_n
 use values::{MaybeRelocatable, MaybeValue, only_relocatable};
 
 // The columns of a constant of type C, X or D, or a statement.
-#[derive(Drop)]
+#[derive(Clone, Copy)]
 pub enum Text {
     Columns(Data),
     Stated(Statement),
 }
 
 // The entry: END is not met yet, or it said this.
-#[derive(Drop)]
+#[derive(Clone, Copy)]
 pub enum Sought {
     Open,
     Found(Entry),
 }
 
 // What a card makes. `number`: its refusal, or 0. `from` and `end`: where the columns of its operand start and end.
-#[derive(Drop)]
+#[derive(Clone, Copy)]
 pub struct Made {
     pub number: u8,
     pub text: Text,

@@ -1,4 +1,6 @@
 // What the emulator calls: numbers and lent bytes in, packed answers out.
+#![tactic(auto)]
+
 ghost use Rattle.std.specs.Prelude.{◌≡◌, ◌<◌, ◌^◌};
 ghost use Rattle.load.specs.Load.{loading};
 ghost use Rattle.passes.specs.Assembly.{assembling};

@@ -1,4 +1,6 @@
 // The operation table of a Model 10: the operation that a card's letters name.
+#![tactic(auto)]
+
 ghost use Rattle.std.specs.Prelude.{◌≡◌, ◌-◌, ◌<◌, length, get_or};
 ghost use Rattle.operations.specs.declared.Operation.TheVariants.{Unknown};
 ghost use Rattle.mnemonics.specs.Rows.{number5, operation_in, word_letter, word_number, operation_at};

@@ -1,5 +1,7 @@
 // The table of names in a lent area: records of 16 bytes in ascending order of the names' numbers.
 // A record: byte 0 its owner (1: in use), 1 to 6 the name, 7 the kind (0: absolute, 1: relocatable), 8-9 the value, 10-11 the length, 12 to 15 zero.
+#![tactic(auto)]
+
 ghost use Rattle.std.specs.Prelude.{◌≡◌, true, ◌+◌, ◌*◌, ◌≤◌, ◌<◌, ◌^◌, length, drop};
 ghost use Rattle.std.proofs.lemmas.List.Edits.{sets};
 ghost use Rattle.values.specs.Values.{amount_of};
@@ -20,7 +22,7 @@ const TWO_24: u64 = 16777216;
 const TWO_16: u64 = 65536;
 
 // A name: its number (six EBCDIC bytes, base 256), what it stands for, its length.
-#[derive(Drop)]
+#[derive(Clone, Copy)]
 pub struct Name {
     pub number: u64,
     pub value: Value,
@@ -28,7 +30,7 @@ pub struct Name {
 }
 
 // What the table says of a number.
-#[derive(Drop)]
+#[derive(Clone, Copy)]
 pub enum Meaning {
     Known(Value, u16),
     Unknown,

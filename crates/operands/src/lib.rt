@@ -1,4 +1,6 @@
 // What the expressions of a card's operand come to.
+#![tactic(auto)]
+
 pub mod kinds;
 
 ghost use Rattle.std.specs.Prelude.{◌≡◌, true, ◌*◌, ◌≤◌, length};
@@ -13,14 +15,14 @@ use expressions::{Evaluated, evaluate};
 use forms::Shape;
 
 // An item in parentheses, where it is written.
-#[derive(Drop)]
+#[derive(Clone, Copy)]
 pub enum EvaluatedItem {
     Absent,
     Of(Evaluated),
 }
 
 // An address with its items, and the length that it implies.
-#[derive(Drop)]
+#[derive(Clone, Copy)]
 pub struct EvaluatedAddress {
     pub address: Evaluated,
     pub length: EvaluatedItem,
@@ -28,7 +30,7 @@ pub struct EvaluatedAddress {
     pub implied: u16,
 }
 
-#[derive(Drop)]
+#[derive(Clone, Copy)]
 pub enum Operands {
     TwoAddresses(EvaluatedAddress, EvaluatedAddress),
     // An address and a Q.

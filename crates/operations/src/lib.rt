@@ -1,9 +1,11 @@
 // What an operation is, and its operation byte at each mode.
+#![tactic(auto)]
+
 pub mod codes;
 pub mod traits;
 
 // What a mnemonic stands for: one of the assembler's own operations, or an instruction of a kind, with the low half of its operation byte, or with the item or Q code that an extended mnemonic brings.
-#[derive(Drop)]
+#[derive(Clone, Copy)]
 pub enum Operation {
     Unknown,
     Start,

@@ -6,7 +6,7 @@ use crate::Operation;
 use values::Wanted;
 
 // Whether a card has a name.
-#[derive(Drop)]
+#[derive(Clone, Copy)]
 pub enum Naming {
     Needed,
     Taken,
@@ -14,7 +14,7 @@ pub enum Naming {
 }
 
 // What a card does to the counter and the names: an ordinary one advances the counter by its bytes.
-#[derive(Drop)]
+#[derive(Clone, Copy)]
 pub enum Role {
     Starts,
     Equates,
@@ -24,7 +24,7 @@ pub enum Role {
 }
 
 // On how many of two addresses a length, or MVX's item, is written.
-#[derive(Drop)]
+#[derive(Clone, Copy)]
 pub enum Lengths {
     OnEach,
     OnOne,
@@ -33,7 +33,7 @@ pub enum Lengths {
 }
 
 // How an operand is written.
-#[derive(Drop)]
+#[derive(Clone, Copy)]
 pub enum Pattern {
     // No operand is right.
     Unreadable,
@@ -55,7 +55,7 @@ pub enum Pattern {
 }
 
 // What a card does with its first or last expression: jumps to it, or takes it for a register.
-#[derive(Drop)]
+#[derive(Clone, Copy)]
 pub enum Use {
     Jumps,
     Registers,
@@ -63,7 +63,7 @@ pub enum Use {
 }
 
 // What an operation's Q is made of: the lengths of both operands, one length, an item, a register, a Q that is written; or what an extended mnemonic brings.
-#[derive(Drop)]
+#[derive(Clone, Copy)]
 pub enum Rule {
     Lengths,
     Length,
@@ -74,7 +74,7 @@ pub enum Rule {
 }
 
 // The operation byte: by the modes of the operands and a low half, or one byte alone.
-#[derive(Drop)]
+#[derive(Clone, Copy)]
 pub enum Opcode {
     NoByte,
     ByTwoModes(u8),
@@ -83,7 +83,7 @@ pub enum Opcode {
     Fixed(u8),
 }
 
-#[derive(Drop)]
+#[derive(Clone, Copy)]
 pub struct Traits {
     pub known: bool,
     pub naming: Naming,

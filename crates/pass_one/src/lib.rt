@@ -1,4 +1,6 @@
 // Pass one, over the cards in order: the counter, the names, and the first card that it refuses.
+#![tactic(auto)]
+
 ghost use Rattle.std.specs.Prelude.{◌≡◌, true, ◌*◌, ◌^◌, ◌≤◌, ◌<◌, length, drop};
 ghost use Rattle.names.specs.Names.{find, ascending};
 ghost use Rattle.names.specs.Table.{names_in};
@@ -23,7 +25,7 @@ use values::MaybeValue;
 use values::numbers::or_else;
 
 // Where pass one stands: the counter, how many names the table holds, and where START and END are.
-#[derive(Drop)]
+#[derive(Clone, Copy)]
 pub struct Pass {
     pub counter: u32,
     pub count: usize,
@@ -31,14 +33,14 @@ pub struct Pass {
 }
 
 // Through all cards, or stopped by a number of refusal at a card.
-#[derive(Drop)]
+#[derive(Clone, Copy)]
 pub enum PassedOne {
     Through(Pass),
     Stopped(u8, u16),
 }
 
 // What pass one looks at of an operand, EQU's or ORG's: its refusal, or 0, and its value. Of the other cards it looks at none.
-#[derive(Drop)]
+#[derive(Clone, Copy)]
 pub struct Early {
     pub number: u8,
     pub value: MaybeValue,

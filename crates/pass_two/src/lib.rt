@@ -1,4 +1,6 @@
 // Pass two, over the cards in order: the first card that it refuses, or the length of the book; and the book, where it is told to write.
+#![tactic(auto)]
+
 ghost use Rattle.std.specs.Prelude.{◌≡◌, true, ◌*◌, ◌≤◌, length};
 ghost use Rattle.std.proofs.lemmas.List.Edits.{sets};
 ghost use Rattle.names.specs.Names.{ascending};
@@ -18,7 +20,7 @@ use passes::Course;
 use places::{Base, Bases};
 
 // What pass two finds: how many bytes the book has, or a number of refusal at a card.
-#[derive(Drop)]
+#[derive(Clone, Copy)]
 pub enum Judged {
     Book(usize),
     Refused(u8, u16),

@@ -1,4 +1,6 @@
 // What both passes make of a card: its part in the counter and the names, and the answer of an assembly.
+#![tactic(auto)]
+
 ghost use Rattle.std.specs.Prelude.{◌≡◌, true, ◌+◌, ◌*◌, ◌^◌, ◌≤◌, ◌<◌, length};
 ghost use Rattle.values.specs.Values.{only_relocatable, with_relocatable};
 ghost use Rattle.names.specs.Names.{find, ascending};
@@ -15,7 +17,7 @@ use places::Bases;
 use values::{MaybeRelocatable, MaybeValue, only_relocatable};
 
 // Where pass one stands: before START, between START and END, behind END.
-#[derive(Drop)]
+#[derive(Clone, Copy)]
 pub enum Phase {
     Before,
     Within,
@@ -23,14 +25,14 @@ pub enum Phase {
 }
 
 // Where pass two stands: the counter, and the bases in force.
-#[derive(Drop)]
+#[derive(Clone, Copy)]
 pub struct Course {
     pub counter: u32,
     pub bases: Bases,
 }
 
 // An assembly's answer: the book's length and the count of names, or a number of refusal with its card.
-#[derive(Drop)]
+#[derive(Clone, Copy)]
 pub enum Assembled {
     Made(u32, u16),
     Refused(u8, u16),

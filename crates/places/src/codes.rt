@@ -13,7 +13,7 @@ use operations::traits::{Rule, rule_of};
 use values::{Absolute, MaybeAbsolute};
 
 // A byte of an instruction; or that its value is out of range; or that there is no value.
-#[derive(Drop)]
+#[derive(Clone, Copy)]
 pub enum Code {
     Byte(u8),
     OutOfRange,

@@ -1,4 +1,6 @@
 // Where operands lie: direct, or by a register under the bases in force; how far a jump goes; refusals 22 and 23.
+#![tactic(auto)]
+
 pub mod codes;
 
 ghost use Rattle.std.specs.Prelude.{◌≡◌, ◌≤◌};
@@ -16,27 +18,27 @@ use values::numbers::lower_of;
 use values::{MaybeAbsolute, MaybeRelocatable, MaybeValue, Value};
 
 // A register's base, under a USING in force.
-#[derive(Drop)]
+#[derive(Clone, Copy)]
 pub enum Base {
     Idle,
     Of(Value),
 }
 
-#[derive(Drop)]
+#[derive(Clone, Copy)]
 pub struct Bases {
     pub one: Base,
     pub two: Base,
 }
 
 // An operand: direct, or by register 1 or 2 with its displacement byte.
-#[derive(Drop)]
+#[derive(Clone, Copy)]
 pub enum Operand {
     Direct(Value),
     Indexed(Value, u8, u8),
 }
 
 // An operand; or refusal 22 or 23; or that there is no value to place.
-#[derive(Drop)]
+#[derive(Clone, Copy)]
 pub enum Placed {
     At(Operand),
     NoBase,

@@ -1,11 +1,13 @@
 // Prints the book on standard input: its lines, or REFUSED 50, or REFUSED 57 for an input over 65,536 bytes.
+#![tactic(auto)]
+
 ghost use Rattle.std.specs.Prelude.{◌≤◌, ◌<◌, length};
 ghost use Rattle.printer.specs.Input.{read_of};
 
 use libc::{STDERR_FILENO, STDIN_FILENO, STDOUT_FILENO};
 
 // How many bytes were read, 0 at the end of the input, or that it can't be read.
-#[derive(Drop)]
+#[derive(Clone, Copy)]
 enum Input {
     Read(usize),
     Failed,

@@ -1,11 +1,13 @@
 // R16.10, the book reader: the lent book and how far it has been read; each step is a record.
+#![tactic(auto)]
+
 ghost use Rattle.std.specs.Prelude.{◌≡◌};
 ghost use Rattle.book.specs.Reading.{step_at};
 
 use book::{Cursor, Step};
 
 // The lent book, and the place that its reader has got to.
-#[derive(Drop)]
+#[derive(Clone, Copy)]
 pub struct BookReader<'a> {
     pub book: &'a [u8],
     pub place: Cursor,

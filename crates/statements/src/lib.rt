@@ -1,4 +1,6 @@
 // What an instruction or a card of the assembler's own means: its statement, or the lowest of refusals 18 to 23, from its operands, the counter and the bases.
+#![tactic(auto)]
+
 ghost use Rattle.std.specs.Prelude.{◌≡◌};
 ghost use Rattle.statements.specs.Statements.{next_of, statement_no, two_of, one_of, jump_with, jump_of, constants_of, statement_from, bases_after, lone_value};
 
@@ -13,7 +15,7 @@ use values::numbers::or_else;
 use values::{MaybeValue, Value};
 
 // A statement that makes bytes: its operation, its Q and its operands; a jump's Q and byte. None: it makes none.
-#[derive(Drop)]
+#[derive(Clone, Copy)]
 pub enum Statement {
     TwoAddresses(Operation, u8, Operand, Operand),
     OneAddress(Operation, u8, Operand),

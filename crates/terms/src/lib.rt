@@ -1,4 +1,6 @@
 // A term at a position of a card, and the name at a position. Positions count from 0, and past the end nothing stands.
+#![tactic(auto)]
+
 pub mod naming;
 
 ghost use Rattle.std.specs.Prelude.{◌≡◌, ◌+◌, ◌*◌, ◌^◌, ◌≤◌, ◌<◌};
@@ -8,7 +10,7 @@ use letters::{Class, byte_at};
 use naming::NameRead;
 
 // A term's value or its name's number, and the position behind it; or the first position at which no term could go on.
-#[derive(Drop)]
+#[derive(Clone, Copy)]
 pub enum Term {
     Number(u16, usize),
     Symbol(u64, usize),
@@ -17,7 +19,7 @@ pub enum Term {
 }
 
 // What stands at a position inside apostrophes: a character's code, or the closing apostrophe, each with the position behind it; or nothing.
-#[derive(Drop)]
+#[derive(Clone, Copy)]
 pub enum Quoted {
     One(u8, usize),
     Closed(usize),
@@ -25,7 +27,7 @@ pub enum Quoted {
 }
 
 // Digits that were read: their value, and the position behind them.
-#[derive(Drop)]
+#[derive(Clone, Copy)]
 pub struct Digits {
     pub value: u32,
     pub next: usize,

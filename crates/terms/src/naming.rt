@@ -6,7 +6,7 @@ use letters::{BLANK_CODE, byte_at, class_at};
 use values::words::wide64;
 
 // A name's number and the position behind it; or the first position at which no name could go on.
-#[derive(Drop)]
+#[derive(Clone, Copy)]
 pub enum NameRead {
     Named(u64, usize),
     NoName(usize),

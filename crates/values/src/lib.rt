@@ -1,4 +1,6 @@
 // Absolute and relocatable values and displacements, kept apart; and the big-endian words that they are written in.
+#![tactic(auto)]
+
 pub mod numbers;
 pub mod words;
 
@@ -6,25 +8,25 @@ ghost use Rattle.std.specs.Prelude.{◌≡◌};
 ghost use Rattle.values.specs.Values.{amount_of, absolute_of, relocatable_of, only_absolute, only_relocatable, moved_by};
 
 // A value that stays what it is wherever the program is loaded.
-#[derive(Drop)]
+#[derive(Clone, Copy)]
 pub struct Absolute(pub u16);
 
 // A place in the program: it goes where the program goes.
-#[derive(Drop)]
+#[derive(Clone, Copy)]
 pub struct Relocatable(pub u16);
 
 // How far a program is moved. It is neither of the two above.
-#[derive(Drop)]
+#[derive(Clone, Copy)]
 pub struct Displacement(u16);
 
-#[derive(Drop)]
+#[derive(Clone, Copy)]
 pub enum Value {
     Absolute(Absolute),
     Relocatable(Relocatable),
 }
 
 // The kind that a place asks of an expression.
-#[derive(Drop)]
+#[derive(Clone, Copy)]
 pub enum Wanted {
     Any,
     OnlyAbsolute,
@@ -32,19 +34,19 @@ pub enum Wanted {
 }
 
 // A value where there is one.
-#[derive(Drop)]
+#[derive(Clone, Copy)]
 pub enum MaybeValue {
     Is(Value),
     Nothing,
 }
 
-#[derive(Drop)]
+#[derive(Clone, Copy)]
 pub enum MaybeAbsolute {
     Is(Absolute),
     Nothing,
 }
 
-#[derive(Drop)]
+#[derive(Clone, Copy)]
 pub enum MaybeRelocatable {
     Is(Relocatable),
     Nothing,
@@ -99,7 +101,7 @@ pub fn only_relocatable(v: MaybeValue) -> MaybeRelocatable
 }
 
 // A relocatable value moved by a displacement, or that the sum is over 65535.
-#[derive(Drop)]
+#[derive(Clone, Copy)]
 pub enum Moved {
     To(Relocatable),
     Over,
