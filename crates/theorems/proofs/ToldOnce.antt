@@ -127,7 +127,7 @@ assemble_fits width source work out = go (way width source work out)
         let r = cards_range (cards_of width source) n k e in
         let few = cards-few width source f in
         (omega arith, omega arith, omega arith)
-    go (Way.too_long w) = (omega arith, omega arith, omega arith)
+    go (Way.too_long_book w) = (omega arith, omega arith, omega arith)
     go (Way.whole w f n b e l) =
         let p = accepted_source (cards_of width source) n b e in
         let names = pass-few (cards_of width source) 1 fresh p.end p.one (omega arith) in

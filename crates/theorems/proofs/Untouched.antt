@@ -70,7 +70,7 @@ module _ (width : ℕ) (source work out : List ℕ) where
       go : {n k : ℕ} {w o : List ℕ} → Way width source work out (Assembled.Refused n k) w o → o ≡ out
       go (Way.at_once n l u) = refl
       go (Way.by_cards w f n k e) = refl
-      go (Way.too_long w) = refl
+      go (Way.too_long_book w) = refl
 
   -- past the book it is unchanged
   pub past_the_book : (bytes names : ℕ) → after.answer ≡ Assembled.Made bytes names → drop bytes after.out ≡ drop bytes out
@@ -89,7 +89,7 @@ module _ (width : ℕ) (source work out : List ℕ) where
       go : {n k : ℕ} {w o : List ℕ} → Way width source work out (Assembled.Refused n k) w o → n ≤ 3 → w ≡ work
       go (Way.at_once n l u) low = refl
       go (Way.by_cards w f n k e) low = let high = (cards_range (cards_of width source) n k e).0 in absurd (omega arith)
-      go (Way.too_long w) low = absurd (omega arith)
+      go (Way.too_long_book w) low = absurd (omega arith)
 
   -- after every other answer its first 8,192 bytes are zero
   pub late_work : ((number card : ℕ) → after.answer ≡ Assembled.Refused number card → 3 < number) → (i x : ℕ) → i < work_size → get_or after.work i x ≡ 0
@@ -98,7 +98,7 @@ module _ (width : ℕ) (source work out : List ℕ) where
       go : {a : Assembled} {w o : List ℕ} → ((number card : ℕ) → a ≡ Assembled.Refused number card → 3 < number) → Way width source work out a w o → get_or w i x ≡ 0
       go late (Way.at_once n l u) = let high = late n 0 refl in absurd (omega arith)
       go late (Way.by_cards w f n k e) = zeroed-front work_size work i x h
-      go late (Way.too_long w) = zeroed-front work_size work i x h
+      go late (Way.too_long_book w) = zeroed-front work_size work i x h
       go late (Way.whole w f n b e l) = zeroed-front work_size work i x h
 
   -- beyond them it never changes
@@ -124,7 +124,7 @@ module _ (width : ℕ) (source work out : List ℕ) where
       go : {n k : ℕ} {w o : List ℕ} → Way width source work out (Assembled.Refused n k) w o → Refusal n k
       go (Way.at_once n l u) = inl (l, u, refl)
       go (Way.by_cards w f n k e) = cards n k (cards-number (cards_of width source) n k e)
-      go (Way.too_long w) = inr (inr (inr (refl, refl)))
+      go (Way.too_long_book w) = inr (inr (inr (refl, refl)))
 
 -- LOADING
 
