@@ -42,6 +42,7 @@ pub enum Addressed {
     Stops(usize),
 }
 
+#[tactic(auto, unfolding(crate::specs::Address::closed))]
 fn closed(s: &[u8], q: usize, a: Address) -> Addressed
     ensures { result ≡ closed s.now q a }
 {
@@ -52,6 +53,7 @@ fn closed(s: &[u8], q: usize, a: Address) -> Addressed
     }
 }
 
+#[tactic(auto, unfolding(crate::specs::Address::register_at))]
 fn register_at(s: &[u8], at: usize, l: Item, p: usize) -> Addressed
     ensures { result ≡ register_at s.now at l p }
 {
@@ -69,6 +71,7 @@ fn register_at(s: &[u8], at: usize, l: Item, p: usize) -> Addressed
     }
 }
 
+#[tactic(auto, unfolding(crate::specs::Address::behind_length))]
 fn behind_length(s: &[u8], at: usize, p: usize, q: usize) -> Addressed
     ensures { result ≡ behind_length s.now at p q }
 {
@@ -88,6 +91,7 @@ fn behind_length(s: &[u8], at: usize, p: usize, q: usize) -> Addressed
     )
 }
 
+#[tactic(auto, unfolding(crate::specs::Address::length_at))]
 fn length_at(s: &[u8], at: usize, p: usize) -> Addressed
     ensures { result ≡ length_at s.now at p }
 {
@@ -98,6 +102,7 @@ fn length_at(s: &[u8], at: usize, p: usize) -> Addressed
 }
 
 // `,R)`, or else what may stand instead.
+#[tactic(auto, unfolding(crate::specs::Address::or_register))]
 fn or_register(s: &[u8], at: usize, p: usize, other: Addressed) -> Addressed
     ensures { result ≡ or_register s.now at p other }
 {
@@ -137,6 +142,7 @@ fn plain(at: usize, q: usize, w: Allowed) -> Addressed
     }
 }
 
+#[tactic(auto, unfolding(crate::specs::Address::behind_address))]
 fn behind_address(s: &[u8], at: usize, q: usize, w: Allowed) -> Addressed
     ensures { result ≡ behind_address w s.now at q }
 {
@@ -147,6 +153,7 @@ fn behind_address(s: &[u8], at: usize, q: usize, w: Allowed) -> Addressed
     }
 }
 
+#[tactic(auto, unfolding(crate::specs::Address::address_at))]
 pub fn address_at(s: &[u8], at: usize, w: Allowed) -> Addressed
     ensures { result ≡ address_at w s.now at }
 {

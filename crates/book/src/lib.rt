@@ -56,6 +56,7 @@ pub enum Layout {
 }
 
 // Offsets that ascend by at least 2, each with its two bytes inside a text of `size` bytes.
+#[tactic(auto, unfolding(crate::specs::Book::fields_fit))]
 pub fn fields_fit(offsets: &[u8], size: usize) -> bool
     ensures { result ≡ fields_fit 0 size offsets.now }
 {
@@ -84,6 +85,7 @@ impl Cursor {
     }
 
     // The record at the cursor, the end, or a broken layout.
+    #[tactic(auto, unfolding(crate::specs::Reading::step_at))]
     pub fn next(self, book: &[u8]) -> Step
         ensures { result ≡ step_at book.now self.at self.card }
     {
@@ -167,6 +169,7 @@ fn read_header(book: &[u8]) -> Layout
 }
 
 // The whole book: its header and every record.
+#[tactic(auto, unfolding(crate::specs::Reading::layout_of))]
 pub fn read_layout(book: &[u8]) -> Layout
     ensures { result ≡ layout_of book.now }
 {

@@ -28,6 +28,7 @@ pub enum Card {
     Statement(Fields),
 }
 
+#[tactic(auto, unfolding(crate::specs::Fields::all_accepted))]
 fn all_accepted(s: &[u8]) -> bool
     ensures { result ≡ all_accepted s.now }
 {
@@ -42,6 +43,7 @@ fn all_accepted(s: &[u8]) -> bool
 }
 
 // Refusal 10, over all statement columns of a card; 0: none.
+#[tactic(auto, unfolding(crate::specs::Fields::byte_no))]
 pub fn byte_no(s: &[u8]) -> u8
     ensures { result ≡ byte_no s.now }
 {
@@ -98,6 +100,7 @@ fn turned_at(inside: bool, s: &[u8], at: usize) -> bool
     }
 }
 
+#[tactic(auto, unfolding(crate::specs::Fields::operand_end))]
 fn end_of_operand(s: &[u8], at: usize) -> usize
     requires { at ≤ length s.now }
     ensures { (result ≡ operand_end (length s.now - at) false s.now at) × (at ≤ result) × (result ≤ length s.now) }
@@ -127,6 +130,7 @@ fn operand_to(s: &[u8], from: usize, to: usize) -> usize
     to
 }
 
+#[tactic(auto, unfolding(crate::specs::Fields::fields_behind))]
 fn read_fields(s: &[u8], name: u64, at: usize) -> Fields
     requires { at ≤ length s.now }
     ensures { result ≡ fields_behind name s.now at }
@@ -151,6 +155,7 @@ fn name_ends(s: &[u8], at: usize) -> bool
     if s.len() <= at { true } else { blank_at(s, at) }
 }
 
+#[tactic(auto, unfolding(terms::specs::Names::name_at))]
 fn read_named(s: &[u8]) -> Card
     ensures { result ≡ named_card s.now (name_at s.now 0) }
 {
@@ -167,6 +172,7 @@ fn read_named(s: &[u8]) -> Card
 }
 
 // A card by its statement columns.
+#[tactic(auto, unfolding(crate::specs::Fields::card_of))]
 pub fn read_card(s: &[u8]) -> Card
     ensures { result ≡ card_of s.now }
 {

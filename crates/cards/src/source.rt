@@ -14,6 +14,7 @@ fn whole_no(rest: usize, count: usize) -> u8
 }
 
 // Refusals 1 and 2 of a source of so many bytes; 0: none.
+#[tactic(auto, unfolding(crate::specs::Source::source_no))]
 pub fn source_no(width: u32, size: usize) -> u8
     ensures { result ≡ source_no width size }
 {
@@ -27,6 +28,7 @@ pub fn source_no(width: u32, size: usize) -> u8
 }
 
 // How many columns the statement has.
+#[tactic(auto, unfolding(crate::specs::Source::columns_of))]
 pub fn columns_of(width: u32) -> usize
     ensures { (result ≡ columns_of width) × (result ≤ 87) }
 {

@@ -34,6 +34,7 @@ pub enum HeadForm {
     Of(Head),
 }
 
+#[tactic(auto, unfolding(crate::specs::Form::type_of))]
 fn type_of(b: u8) -> Typed
     ensures { result ≡ type_of b }
 {
@@ -52,6 +53,7 @@ fn type_of(b: u8) -> Typed
     Typed::Nothing
 }
 
+#[tactic(auto, unfolding(crate::specs::Form::copies_before))]
 fn copies_before(s: &[u8], at: usize) -> u32
     ensures { result ≡ copies_before s.now at }
 {
@@ -59,6 +61,7 @@ fn copies_before(s: &[u8], at: usize) -> u32
 }
 
 // The length behind a type, if it is written.
+#[tactic(auto, unfolding(crate::specs::Form::length_at))]
 fn read_length(s: &[u8], kind: DataType, copies: u32, at: usize) -> HeadForm
     ensures { result ≡ length_at s.now kind copies at }
 {
@@ -83,6 +86,7 @@ fn read_length(s: &[u8], kind: DataType, copies: u32, at: usize) -> HeadForm
     })
 }
 
+#[tactic(auto, unfolding(crate::specs::Form::head_at))]
 pub fn read_head(s: &[u8]) -> HeadForm
     ensures { result ≡ head_at s.now }
 {

@@ -111,6 +111,7 @@ fn reserve_data(h: Head) -> Data
 }
 
 // The value behind copies, type and length, and nothing behind it.
+#[tactic(auto, unfolding(crate::specs::Form::constant_behind))]
 fn constant_behind(o: &[u8], h: Head) -> DataForm
     ensures { result ≡ constant_behind o.now h }
 {
@@ -129,6 +130,7 @@ fn constant_behind(o: &[u8], h: Head) -> DataForm
 }
 
 // A DC operand.
+#[tactic(auto, unfolding(crate::specs::Form::constant_form))]
 pub fn constant_form(o: &[u8]) -> DataForm
     ensures { result ≡ constant_form o.now }
 {
@@ -139,6 +141,7 @@ pub fn constant_form(o: &[u8]) -> DataForm
 }
 
 // A DS operand: it has no value.
+#[tactic(auto, unfolding(crate::specs::Form::reserve_form))]
 pub fn reserve_form(o: &[u8]) -> DataForm
     ensures { result ≡ reserve_form o.now }
 {

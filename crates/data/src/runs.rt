@@ -5,6 +5,7 @@ ghost use Rattle.data.specs.Runs.{digits_end, told, number_from};
 use letters::byte_at;
 
 // The position behind the digits of a base that stand from a position on.
+#[tactic(auto, unfolding(crate::specs::Runs::digits_end))]
 pub fn digits_end(s: &[u8], at: usize, base: u8) -> usize
     requires { base ≤ 16 }
     ensures { result ≡ digits_end base s.now at }
@@ -17,6 +18,7 @@ pub fn digits_end(s: &[u8], at: usize, base: u8) -> usize
 }
 
 // A number, told no further than 65536.
+#[tactic(auto, unfolding(crate::specs::Runs::told))]
 pub fn tell(n: usize) -> u32
     ensures { result ≡ told n }
 {
@@ -24,6 +26,7 @@ pub fn tell(n: usize) -> u32
 }
 
 // A decimal digit behind a number.
+#[tactic(auto, unfolding(crate::specs::Runs::told))]
 fn append_digit(v: u32, digit: u8) -> u32
     requires { (v ≤ 65536) × (digit ≤ 16) }
     ensures { result ≡ told (v * 10 + digit) }
@@ -33,6 +36,7 @@ fn append_digit(v: u32, digit: u8) -> u32
 }
 
 // The number that the digits between two positions write, told no further than 65536.
+#[tactic(auto, unfolding(crate::specs::Runs::told, crate::specs::Runs::number_from))]
 pub fn number_in(s: &[u8], at: usize, end: usize) -> u32
     ensures { result ≡ told (number_from (end - at) s.now at 0) }
 {

@@ -15,6 +15,7 @@ fn longest_of(kind: DataType) -> u32
     }
 }
 
+#[tactic(auto, unfolding(crate::specs::Sizes::length_fits))]
 pub fn length_fits(d: Data) -> bool
     ensures { result ≡ length_fits d }
 {
@@ -46,6 +47,7 @@ pub fn bytes_needed(d: Data) -> u32
 }
 
 // The bytes of all copies.
+#[tactic(auto, unfolding(crate::specs::Sizes::data_size))]
 pub fn data_size(d: Data) -> usize
     ensures { result ≡ data_size d }
 {
@@ -53,6 +55,7 @@ pub fn data_size(d: Data) -> usize
 }
 
 // Refusal 21 of a DC card, or 0.
+#[tactic(auto, unfolding(crate::specs::Sizes::constant_no))]
 fn constant_no(d: Data) -> u8
     ensures { result ≡ constant_no d }
 {
@@ -72,6 +75,7 @@ fn constant_no(d: Data) -> u8
 }
 
 // Refusal 21 of a DS card, or 0.
+#[tactic(auto, unfolding(crate::specs::Sizes::reserve_no))]
 fn reserve_no(d: Data) -> u8
     ensures { result ≡ reserve_no d }
 {

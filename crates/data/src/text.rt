@@ -30,6 +30,7 @@ fn next_in(q: Quoted, at: usize) -> usize
 }
 
 // The codes of n characters from a position on.
+#[tactic(auto, unfolding(crate::specs::Text::codes_from))]
 fn put_codes(o: &[u8], at: usize, n: usize, m: &mut [u8], to: usize)
     requires { to + n ≤ length m.old }
     ensures { m.new ≡ sets m.old to (codes_from n o.now at) }
@@ -60,6 +61,7 @@ fn pair_at(o: &[u8], at: usize) -> u8
 }
 
 // n bytes of two hex digits each, from a position on.
+#[tactic(auto, unfolding(crate::specs::Text::pairs_from))]
 fn put_pairs(o: &[u8], at: usize, n: usize, m: &mut [u8], to: usize)
     requires { (at + 2 * n < 2 ^ 64) × (to + n ≤ length m.old) }
     ensures { m.new ≡ sets m.old to (pairs_from n o.now at) }
@@ -75,6 +77,7 @@ fn put_pairs(o: &[u8], at: usize, n: usize, m: &mut [u8], to: usize)
 }
 
 // The bytes of so many hex digits: the first of an odd count has a byte of its own.
+#[tactic(auto, unfolding(crate::specs::Text::hex_bytes))]
 fn put_hex(o: &[u8], at: usize, count: usize, m: &mut [u8], to: usize)
     requires { (at + count < 2 ^ 64) × (to + half_up count ≤ length m.old) }
     ensures { m.new ≡ sets m.old to (hex_bytes count o.now at) }
@@ -101,6 +104,7 @@ fn put_fill(m: &mut [u8], to: usize, n: usize, b: u8)
 }
 
 // Blanks on the right.
+#[tactic(auto, unfolding(crate::specs::Text::characters_text))]
 fn put_characters(o: &[u8], d: Data, m: &mut [u8], to: usize)
     requires { (d.count ≤ d.length) × (to + d.length ≤ length m.old) }
     ensures { m.new ≡ sets m.old to (characters_text o.now d) }
@@ -114,6 +118,7 @@ fn put_characters(o: &[u8], d: Data, m: &mut [u8], to: usize)
 }
 
 // Zeros on the left.
+#[tactic(auto, unfolding(crate::specs::Text::hexadecimal_text))]
 fn put_hexadecimal(o: &[u8], d: Data, m: &mut [u8], to: usize)
     requires { (half_up d.count ≤ d.length) × (to + d.length ≤ length m.old) × (d.value + d.count ≤ length o.now) }
     ensures { m.new ≡ sets m.old to (hexadecimal_text o.now d) }
@@ -128,6 +133,7 @@ fn put_hexadecimal(o: &[u8], d: Data, m: &mut [u8], to: usize)
 }
 
 // F0 on the left.
+#[tactic(auto, unfolding(crate::specs::Text::decimal_text))]
 fn put_decimal(o: &[u8], d: Data, m: &mut [u8], to: usize)
     requires { (d.count ≤ d.length) × (to + d.length ≤ length m.old) }
     ensures { m.new ≡ sets m.old to (decimal_text o.now d) }
@@ -155,6 +161,7 @@ fn put_copy(o: &[u8], d: Data, m: &mut [u8], to: usize)
 }
 
 // All copies of a constant, laid over a slice from a place on.
+#[tactic(auto, unfolding(crate::specs::Text::constant_text, crate::specs::Sizes::data_size, crate::specs::Sizes::constant_no))]
 pub fn put_constant(o: &[u8], d: Data, m: &mut [u8], to: usize)
     requires { (constant_no d ≡ 0) × (d.value + d.count ≤ length o.now) × (to + data_size d ≤ length m.old) }
     ensures { m.new ≡ sets m.old to (constant_text o.now d) }

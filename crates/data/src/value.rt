@@ -16,6 +16,7 @@ pub enum Extent {
 }
 
 // Characters from a position on, and the closing apostrophe.
+#[tactic(auto, unfolding(crate::specs::Form::characters_at))]
 fn count_characters(s: &[u8], at: usize) -> Extent
     ensures { result ≡ characters_at s.now at }
 {
@@ -41,6 +42,7 @@ fn count_characters(s: &[u8], at: usize) -> Extent
 }
 
 // Digits of a base from a position on, and the closing apostrophe.
+#[tactic(auto, unfolding(crate::specs::Form::run_at))]
 fn count_digits(s: &[u8], at: usize, base: u8) -> Extent
     requires { base ≤ 16 }
     ensures { result ≡ run_at base s.now at }
@@ -56,6 +58,7 @@ fn count_digits(s: &[u8], at: usize, base: u8) -> Extent
 }
 
 // An expression at a position, and the closing parenthesis.
+#[tactic(auto, unfolding(crate::specs::Form::address_at))]
 fn read_address(s: &[u8], at: usize) -> Extent
     ensures { result ≡ address_at s.now at }
 {
@@ -84,6 +87,7 @@ fn opening(kind: DataType) -> u8
 }
 
 // The value of a type that opens at a position.
+#[tactic(auto, unfolding(crate::specs::Form::value_at))]
 pub fn read_value(s: &[u8], kind: DataType, at: usize) -> Extent
     ensures { result ≡ value_at s.now kind at }
 {

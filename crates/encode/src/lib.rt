@@ -55,6 +55,7 @@ fn constants_size(copies: u32, size: u32) -> usize
 }
 
 // How many bytes a statement makes.
+#[tactic(auto, unfolding(crate::specs::Pieces::text_of, crate::specs::Pieces::pieces_of))]
 pub fn text_size(st: Statement) -> usize
     ensures { result ≡ length (text_of (pieces_of st)) }
 {
@@ -102,6 +103,7 @@ fn constant_count(copies: u32, size: u32, v: Value) -> usize
 }
 
 // How many relocatable fields a statement has.
+#[tactic(auto, unfolding(crate::specs::Pieces::pieces_of))]
 pub fn field_count(st: Statement) -> usize
     ensures { result ≡ length (fields_of (pieces_of st)) }
 {
@@ -115,6 +117,7 @@ pub fn field_count(st: Statement) -> usize
 
 // THE TEXT
 
+#[tactic(auto, unfolding(crate::specs::Pieces::text_of))]
 fn put_operand(x: Operand, m: &mut [u8], to: usize)
     requires { to + operand_size x ≤ length m.old }
     ensures { m.new ≡ sets m.old to (text_of (operand_pieces x)) }
@@ -136,6 +139,7 @@ fn put_codes(operation: u8, q: u8, m: &mut [u8], to: usize)
     m[to + 1] = q;
 }
 
+#[tactic(auto, unfolding(crate::specs::Pieces::text_of))]
 fn put_two(op: Operation, q: u8, a: Operand, b: Operand, m: &mut [u8], to: usize)
     requires { to + (2 + operand_size a + operand_size b) ≤ length m.old }
     ensures { m.new ≡ sets m.old to (operation_byte op (mode_of a) (mode_of b) ∷ q ∷ (text_of (operand_pieces a) ++ text_of (operand_pieces b))) }
@@ -146,6 +150,7 @@ fn put_two(op: Operation, q: u8, a: Operand, b: Operand, m: &mut [u8], to: usize
 }
 
 // A lone operand's mode is given twice.
+#[tactic(auto, unfolding(crate::specs::Pieces::text_of))]
 fn put_one(op: Operation, q: u8, a: Operand, m: &mut [u8], to: usize)
     requires { to + (2 + operand_size a) ≤ length m.old }
     ensures { m.new ≡ sets m.old to (operation_byte op (mode_of a) (mode_of a) ∷ q ∷ text_of (operand_pieces a)) }
@@ -165,6 +170,7 @@ fn put_three(a: u8, b: u8, c: u8, m: &mut [u8], to: usize)
 }
 
 // One copy of an address constant.
+#[tactic(auto, unfolding(crate::specs::Pieces::text_of, crate::specs::Pieces::address_pieces))]
 fn put_address(size: u32, v: Value, m: &mut [u8], to: usize)
     requires { to + constant_size size ≤ length m.old }
     ensures { m.new ≡ sets m.old to (text_of (address_pieces size v)) }
@@ -184,6 +190,7 @@ fn put_address(size: u32, v: Value, m: &mut [u8], to: usize)
 }
 
 // All copies.
+#[tactic(auto, unfolding(crate::specs::Pieces::text_of, crate::specs::Pieces::copied, crate::specs::Pieces::address_pieces))]
 fn put_addresses(copies: u32, size: u32, v: Value, m: &mut [u8], to: usize)
     requires { to + length (text_of (copied copies (address_pieces size v))) ≤ length m.old }
     ensures { m.new ≡ sets m.old to (text_of (copied copies (address_pieces size v))) }
@@ -199,6 +206,7 @@ fn put_addresses(copies: u32, size: u32, v: Value, m: &mut [u8], to: usize)
 }
 
 // A statement's bytes, laid over a slice from a place on.
+#[tactic(auto, unfolding(crate::specs::Pieces::text_of, crate::specs::Pieces::pieces_of))]
 pub fn put_text(st: Statement, m: &mut [u8], to: usize)
     requires { to + length (text_of (pieces_of st)) ≤ length m.old }
     ensures { m.new ≡ sets m.old to (text_of (pieces_of st)) }
@@ -220,6 +228,7 @@ pub fn put_text(st: Statement, m: &mut [u8], to: usize)
 
 // THE FIELDS
 
+#[tactic(auto, unfolding(crate::specs::Pieces::offsets_from))]
 fn put_operand_field(x: Operand, at: u8, m: &mut [u8], to: usize)
     requires { to + operand_count x ≤ length m.old }
     ensures { m.new ≡ sets m.old to (offsets_from at (operand_pieces x)) }
@@ -230,6 +239,7 @@ fn put_operand_field(x: Operand, at: u8, m: &mut [u8], to: usize)
 }
 
 // The second operand stands behind the first.
+#[tactic(auto, unfolding(crate::specs::Pieces::offsets_from))]
 fn put_two_fields(a: Operand, b: Operand, m: &mut [u8], to: usize)
     requires { to + (operand_count a + operand_count b) ≤ length m.old }
     ensures { m.new ≡ sets m.old to (offsets_from 2 (operand_pieces a) ++ offsets_from (2 + operand_size a) (operand_pieces b)) }
@@ -241,6 +251,7 @@ fn put_two_fields(a: Operand, b: Operand, m: &mut [u8], to: usize)
 }
 
 // Every copy of an address constant that is a field.
+#[tactic(auto, unfolding(crate::specs::Pieces::copied, crate::specs::Pieces::address_pieces))]
 fn put_address_fields(copies: u32, size: u32, v: Value, m: &mut [u8], to: usize)
     requires { (to + constant_count copies size v ≤ length m.old) × (2 * constant_count copies size v ≤ 256) }
     ensures { m.new ≡ sets m.old to (fields_of (copied copies (address_pieces size v))) }
@@ -254,6 +265,7 @@ fn put_address_fields(copies: u32, size: u32, v: Value, m: &mut [u8], to: usize)
 }
 
 // The offsets of a statement's relocatable fields, laid over a slice from a place on.
+#[tactic(auto, unfolding(crate::specs::Pieces::text_of, crate::specs::Pieces::pieces_of))]
 pub fn put_fields(st: Statement, m: &mut [u8], to: usize)
     requires { (length (text_of (pieces_of st)) ≤ 256) × (to + length (fields_of (pieces_of st)) ≤ length m.old) }
     ensures { m.new ≡ sets m.old to (fields_of (pieces_of st)) }

@@ -29,6 +29,7 @@ pub fn joins_at(s: &[u8], at: usize) -> bool
     if b == b'+' { true } else { b == b'-' }
 }
 
+#[tactic(auto, unfolding(crate::specs::Form::factors_at))]
 fn factors_form(s: &[u8], at: usize) -> Form
     ensures { result ≡ form_of (factors_at s.now at) }
 {
@@ -46,6 +47,7 @@ fn factors_form(s: &[u8], at: usize) -> Form
     Form::Ends(q)
 }
 
+#[tactic(auto, unfolding(crate::specs::Form::product_at))]
 fn product_form(s: &[u8], at: usize) -> Form
     ensures { result ≡ form_of (product_at s.now at) }
 {

@@ -69,6 +69,7 @@ impl Held {
         }
     }
 
+    #[tactic(auto, unfolding(crate::specs::Steps::multiplied))]
     pub fn multiplied(self, f: Factor) -> Held
         ensures { result ≡ multiplied self f }
     {
@@ -86,6 +87,7 @@ impl Held {
     }
 }
 
+#[tactic(auto, unfolding(crate::specs::Steps::summed))]
 fn sum_of(minus: bool, sum: u32, value: u32) -> u32
     ensures { result ≡ summed minus sum value }
 {
@@ -97,6 +99,7 @@ fn sum_of(minus: bool, sum: u32, value: u32) -> u32
     }
 }
 
+#[tactic(auto, unfolding(crate::specs::Steps::summed_out))]
 fn sum_out(minus: bool, sum: u32, value: u32) -> bool
     ensures { result ≡ summed_out minus sum value }
 {
@@ -144,6 +147,7 @@ impl Running {
     }
 
     // A product goes into the sum.
+    #[tactic(auto, unfolding(crate::specs::Steps::run_on))]
     pub fn run_on(self, minus: bool, h: Held) -> Running
         requires { (self.plus + 1 < 2 ^ 64) × (self.minus + 1 < 2 ^ 64) }
         ensures { result ≡ run_on self minus h }

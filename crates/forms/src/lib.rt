@@ -37,12 +37,14 @@ pub enum Shape {
     Data(Data),
 }
 
+#[tactic(auto, unfolding(crate::specs::Shape::ended))]
 fn ended(o: &[u8], q: usize, x: Shape) -> Shape
     ensures { result ≡ ended o.now q x }
 {
     if q < o.len() { Shape::Fails(q) } else { x }
 }
 
+#[tactic(auto, unfolding(crate::specs::Shape::last_at))]
 fn last_at(o: &[u8], p: usize, x: Shape) -> Shape
     ensures { result ≡ last_at o.now p x }
 {
@@ -52,6 +54,7 @@ fn last_at(o: &[u8], p: usize, x: Shape) -> Shape
     }
 }
 
+#[tactic(auto, unfolding(crate::specs::Shape::start_term))]
 fn start_term(o: &[u8]) -> Term
     ensures { result ≡ start_term o.now }
 {
@@ -75,6 +78,7 @@ fn start_of(o: &[u8], t: Term) -> Shape
     }
 }
 
+#[tactic(auto, unfolding(crate::specs::Shape::start_shape))]
 fn start_shape(o: &[u8]) -> Shape
     ensures { result ≡ start_shape o.now }
 {
@@ -84,6 +88,7 @@ fn start_shape(o: &[u8]) -> Shape
     start_of(o, start_term(o))
 }
 
+#[tactic(auto, unfolding(crate::specs::Shape::end_shape))]
 fn end_shape(o: &[u8]) -> Shape
     ensures { result ≡ end_shape o.now }
 {
@@ -93,6 +98,7 @@ fn end_shape(o: &[u8]) -> Shape
     last_at(o, 0, Shape::Expression)
 }
 
+#[tactic(auto, unfolding(crate::specs::Shape::pair_shape))]
 fn pair_shape(o: &[u8]) -> Shape
     ensures { result ≡ pair_shape o.now }
 {
@@ -141,6 +147,7 @@ fn second_allowed(k: Lengths, l: Item) -> Allowed
 }
 
 // The second address, and the end of the operand.
+#[tactic(auto, unfolding(crate::specs::Shape::two_of))]
 fn two_of(o: &[u8], a: Address, p: usize, w: Allowed) -> Shape
     ensures { result ≡ two_of o.now a p w }
 {
@@ -150,6 +157,7 @@ fn two_of(o: &[u8], a: Address, p: usize, w: Allowed) -> Shape
     }
 }
 
+#[tactic(auto, unfolding(crate::specs::Shape::two_shape))]
 fn two_shape(o: &[u8], k: Lengths) -> Shape
     ensures { result ≡ two_shape k o.now }
 {
@@ -166,6 +174,7 @@ fn two_shape(o: &[u8], k: Lengths) -> Shape
     }
 }
 
+#[tactic(auto, unfolding(crate::specs::Shape::one_shape))]
 fn one_shape(o: &[u8]) -> Shape
     ensures { result ≡ one_shape o.now }
 {
@@ -182,6 +191,7 @@ fn one_shape(o: &[u8]) -> Shape
     }
 }
 
+#[tactic(auto, unfolding(crate::specs::Shape::only_shape))]
 fn only_shape(o: &[u8]) -> Shape
     ensures { result ≡ only_shape o.now }
 {
@@ -191,6 +201,7 @@ fn only_shape(o: &[u8]) -> Shape
     }
 }
 
+#[tactic(auto, unfolding(crate::specs::Shape::constant_shape))]
 fn constant_shape(o: &[u8]) -> Shape
     ensures { result ≡ constant_shape o.now }
 {
@@ -200,6 +211,7 @@ fn constant_shape(o: &[u8]) -> Shape
     }
 }
 
+#[tactic(auto, unfolding(crate::specs::Shape::reserve_shape))]
 fn reserve_shape(o: &[u8]) -> Shape
     ensures { result ≡ reserve_shape o.now }
 {

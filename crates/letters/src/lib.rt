@@ -87,6 +87,7 @@ const PAIRS: [Pair; 61] = [
 ];
 
 // The class of a byte. In ASCII # and $ are neighbours, @ stands before A, and the signs lie between the others.
+#[tactic(auto, unfolding(crate::specs::Letters::class_of, crate::specs::Text::is_one_of, crate::specs::Text::is_from_to))]
 pub fn class_of(b: u8) -> Class
     ensures { result ≡ class_of b }
 {
@@ -100,6 +101,7 @@ pub fn class_of(b: u8) -> Class
 }
 
 // Where a byte's pair stands in the table; a byte that is not accepted is sent to the first place.
+#[tactic(auto, unfolding(crate::specs::Table::place_of))]
 fn place_of(b: u8) -> usize
     ensures { (result ≡ place_of b) × (result < 61) }
 {
@@ -112,6 +114,7 @@ fn place_of(b: u8) -> usize
 }
 
 // The EBCDIC code of a byte; 0 where it is not accepted.
+#[tactic(auto, unfolding(crate::specs::Table::table, crate::specs::Letters::code_of))]
 pub fn code_of(b: u8) -> u8
     ensures { result ≡ code_of b }
 {
@@ -121,6 +124,7 @@ pub fn code_of(b: u8) -> u8
 }
 
 // The value of a hexadecimal digit; 16 for a byte that is none.
+#[tactic(auto, unfolding(crate::specs::Letters::digit_of, crate::specs::Text::is_from_to))]
 pub fn digit_of(b: u8) -> u8
     ensures { (result ≡ digit_of b) × (result ≤ 16) }
 {
@@ -186,6 +190,7 @@ pub fn byte_at(s: &[u8], i: usize) -> u8
     if i < s.len() { s[i] } else { 0 }
 }
 
+#[tactic(auto, unfolding(crate::specs::Letters::class_of))]
 pub fn class_at(s: &[u8], i: usize) -> Class
     ensures { result ≡ class_of (get_or s.now i 0) }
 {

@@ -26,6 +26,7 @@ pub enum Reading {
     Statement(Line),
 }
 
+#[tactic(auto, unfolding(crate::specs::Lines::line_of))]
 fn line_of(card: &[u8], f: Fields) -> Line
     requires { (f.operand ≤ f.end) × (f.end ≤ length card.now) }
     ensures { result ≡ line_of card.now f }
@@ -44,6 +45,7 @@ fn line_of(card: &[u8], f: Fields) -> Line
 }
 
 // A card by its statement columns.
+#[tactic(auto, unfolding(crate::specs::Lines::reading_of))]
 pub fn read_line(card: &[u8]) -> Reading
     ensures { result ≡ reading_of card.now }
 {

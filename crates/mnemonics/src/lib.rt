@@ -106,6 +106,7 @@ const OPERATIONS: [Operation; ROWS] = [
     Operation::TwoLengths(0x4),
 ];
 
+#[tactic(auto, unfolding(crate::specs::Rows::number5))]
 fn number_of(t: [u8; 5]) -> u64
     ensures { result ≡ number5 t }
 {
@@ -139,6 +140,7 @@ fn find_row(rows: &[[u8; 5]], key: u64) -> usize
     rows.len()
 }
 
+#[tactic(auto, unfolding(crate::specs::Sorted::sorted_letters, crate::specs::Sorted::sorted, crate::specs::Sorted::inserted, crate::specs::Model10::model10, crate::specs::Model10::own_operations, crate::specs::Model10::two_addresses, crate::specs::Model10::one_addresses, crate::specs::Model10::branches, crate::specs::Model10::jumps, crate::specs::Model10::extended_moves, crate::specs::Model10::extended_branches, crate::specs::Model10::extended_jumps, crate::specs::Rows::letters_of, crate::specs::Rows::number5))]
 fn row_of(key: u64) -> usize
     ensures { result ≡ row_in sorted_letters key }
 {
@@ -146,6 +148,7 @@ fn row_of(key: u64) -> usize
     find_row(&rows, key)
 }
 
+#[tactic(auto, unfolding(crate::specs::Sorted::sorted_operations, crate::specs::Sorted::sorted, crate::specs::Sorted::inserted, crate::specs::Model10::model10, crate::specs::Model10::own_operations, crate::specs::Model10::two_addresses, crate::specs::Model10::one_addresses, crate::specs::Model10::branches, crate::specs::Model10::jumps, crate::specs::Model10::extended_moves, crate::specs::Model10::extended_branches, crate::specs::Model10::extended_jumps, crate::specs::Rows::letters_of, crate::specs::Rows::number5))]
 fn operation_in(row: usize) -> Operation
     ensures { result ≡ get_or sorted_operations row Unknown }
 {
@@ -157,6 +160,7 @@ fn operation_in(row: usize) -> Operation
     o
 }
 
+#[tactic(auto, unfolding(crate::specs::Rows::operation_in, crate::specs::Model10::model10))]
 fn operation_of(key: u64) -> Operation
     ensures { result ≡ operation_in model10 key }
 {
@@ -169,6 +173,7 @@ fn word_size(from: usize, to: usize) -> usize
     if from < to { to - from } else { 0 }
 }
 
+#[tactic(auto, unfolding(crate::specs::Rows::word_letter))]
 fn word_letter(s: &[u8], from: usize, to: usize, k: usize) -> u8
     ensures { result ≡ word_letter s.now from to k }
 {
@@ -179,6 +184,7 @@ fn word_letter(s: &[u8], from: usize, to: usize, k: usize) -> u8
     }
 }
 
+#[tactic(auto, unfolding(crate::specs::Rows::word_number))]
 fn word_number(s: &[u8], from: usize, to: usize) -> u64
     ensures { result ≡ word_number s.now from to }
 {
@@ -191,6 +197,7 @@ fn word_number(s: &[u8], from: usize, to: usize) -> u64
 }
 
 // The operation whose letters stand between two positions of a card.
+#[tactic(auto, unfolding(crate::specs::Rows::operation_at, crate::specs::Model10::model10))]
 pub fn operation_at(s: &[u8], from: usize, to: usize) -> Operation
     ensures { result ≡ operation_at model10 s.now from to }
 {

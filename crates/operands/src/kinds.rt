@@ -40,6 +40,7 @@ fn address_no(a: EvaluatedAddress) -> u8
     )
 }
 
+#[tactic(auto, unfolding(crate::specs::Kinds::expressions_no))]
 pub fn expressions_no(op: Operation, x: Operands) -> u8
     ensures { result ≡ expressions_no op x }
 {

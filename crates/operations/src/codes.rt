@@ -12,18 +12,21 @@ fn of_halves(high: usize, low: u8) -> u8
     (high % 16 * 16 + wide(low) % 16) as u8
 }
 
+#[tactic(auto, unfolding(crate::specs::Codes::two_address))]
 fn two_address(i: u8, j: u8, low: u8) -> u8
     ensures { result ≡ two_address i j low }
 {
     of_halves(4 * wide(i) + wide(j), low)
 }
 
+#[tactic(auto, unfolding(crate::specs::Codes::one_address))]
 fn one_address(i: u8, low: u8) -> u8
     ensures { result ≡ one_address i low }
 {
     of_halves(4 * wide(i) + 3, low)
 }
 
+#[tactic(auto, unfolding(crate::specs::Codes::branch))]
 fn branch_to(j: u8, low: u8) -> u8
     ensures { result ≡ branch j low }
 {

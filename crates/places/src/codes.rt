@@ -20,6 +20,7 @@ pub enum Code {
     Nothing,
 }
 
+#[tactic(auto, unfolding(crate::specs::Codes::lengths_code))]
 fn lengths_code(l1: u16, l2: u16) -> Code
     ensures { result ≡ lengths_code l1 l2 }
 {
@@ -38,6 +39,7 @@ fn lengths_code(l1: u16, l2: u16) -> Code
     Code::Byte((16 * (l1 - l2) + (l2 - 1)) as u8)
 }
 
+#[tactic(auto, unfolding(crate::specs::Codes::length_code))]
 fn length_code(l: u16) -> Code
     ensures { result ≡ length_code l }
 {
@@ -50,6 +52,7 @@ fn length_code(l: u16) -> Code
     Code::Byte((l - 1) as u8)
 }
 
+#[tactic(auto, unfolding(crate::specs::Codes::item_code))]
 fn item_code(i: u16) -> Code
     ensures { result ≡ item_code i }
 {
@@ -59,6 +62,7 @@ fn item_code(i: u16) -> Code
     Code::Byte(i as u8)
 }
 
+#[tactic(auto, unfolding(crate::specs::Codes::register_code))]
 fn register_code(q: u16) -> Code
     ensures { result ≡ register_code q }
 {
@@ -71,6 +75,7 @@ fn register_code(q: u16) -> Code
     Code::Byte(q as u8)
 }
 
+#[tactic(auto, unfolding(crate::specs::Codes::written_code))]
 fn written_code(q: u16) -> Code
     ensures { result ≡ written_code q }
 {
@@ -96,6 +101,7 @@ fn length_or(i: EvaluatedItem, a: EvaluatedAddress) -> MaybeAbsolute
     item_or(i, MaybeAbsolute::Is(Absolute(a.implied)))
 }
 
+#[tactic(auto, unfolding(crate::specs::Codes::lengths_code))]
 fn lengths_of(first: MaybeAbsolute, second: MaybeAbsolute) -> Code
     ensures { result ≡ with_absolute first (λ l1. with_absolute second (λ l2. lengths_code l1 l2) Nothing) Nothing }
 {
@@ -108,6 +114,7 @@ fn lengths_of(first: MaybeAbsolute, second: MaybeAbsolute) -> Code
     }
 }
 
+#[tactic(auto, unfolding(crate::specs::Codes::length_code))]
 fn length_of(l: MaybeAbsolute) -> Code
     ensures { result ≡ with_absolute l length_code Nothing }
 {
@@ -117,6 +124,7 @@ fn length_of(l: MaybeAbsolute) -> Code
     }
 }
 
+#[tactic(auto, unfolding(crate::specs::Codes::item_code))]
 fn item_of(i: MaybeAbsolute) -> Code
     ensures { result ≡ with_absolute i item_code Nothing }
 {
@@ -126,6 +134,7 @@ fn item_of(i: MaybeAbsolute) -> Code
     }
 }
 
+#[tactic(auto, unfolding(crate::specs::Codes::register_code))]
 fn register_of(q: MaybeAbsolute) -> Code
     ensures { result ≡ with_absolute q register_code Nothing }
 {
@@ -135,6 +144,7 @@ fn register_of(q: MaybeAbsolute) -> Code
     }
 }
 
+#[tactic(auto, unfolding(crate::specs::Codes::written_code))]
 fn written_of(q: MaybeAbsolute) -> Code
     ensures { result ≡ with_absolute q written_code Nothing }
 {
@@ -206,6 +216,7 @@ fn given_code(rule: Rule) -> Code
     }
 }
 
+#[tactic(auto, unfolding(crate::specs::Codes::code_of))]
 pub fn code_of(op: Operation, x: Operands) -> Code
     ensures { result ≡ code_of op x }
 {

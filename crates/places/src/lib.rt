@@ -55,6 +55,7 @@ fn base_of(bases: Bases, r: u16) -> Base
 }
 
 // An operand by a register: its value's distance from a base, where a byte can hold it.
+#[tactic(auto, unfolding(crate::specs::Places::away_from))]
 fn away_from(v: Value, r: u8, from: u16, amount: u16) -> Placed
     ensures { result ≡ away_from v r from amount }
 {
@@ -86,6 +87,7 @@ fn under_base(v: Value, r: u8, amount: u16, base: Base) -> Placed
     }
 }
 
+#[tactic(auto, unfolding(crate::specs::Places::displaced_by))]
 fn displaced(v: Value, r: u8, base: Base) -> Placed
     ensures { result ≡ displaced_by v r base }
 {
@@ -95,6 +97,7 @@ fn displaced(v: Value, r: u8, base: Base) -> Placed
     }
 }
 
+#[tactic(auto, unfolding(crate::specs::Places::indexed_by))]
 fn indexed(bases: Bases, v: Value, r: u16) -> Placed
     ensures { result ≡ indexed_by bases v r }
 {
@@ -108,6 +111,7 @@ fn indexed(bases: Bases, v: Value, r: u16) -> Placed
     }
 }
 
+#[tactic(auto, unfolding(crate::specs::Places::indexed_by))]
 fn indexed_by(bases: Bases, v: Value, register: MaybeAbsolute) -> Placed
     ensures { result ≡ with_absolute register (indexed_by bases v) Nothing }
 {
@@ -126,6 +130,7 @@ fn by_register(bases: Bases, v: Value, register: EvaluatedItem) -> Placed
     }
 }
 
+#[tactic(auto, unfolding(crate::specs::Places::operand_of))]
 pub fn operand_of(bases: Bases, a: EvaluatedAddress) -> Placed
     ensures { result ≡ operand_of bases a }
 {
@@ -157,6 +162,7 @@ pub fn operand_size(x: Operand) -> usize
 }
 
 // A jump's byte: from the next instruction's address to the target.
+#[tactic(auto, unfolding(crate::specs::Places::jump_code))]
 fn jump_code(next: usize, target: u16) -> Code
     ensures { result ≡ jump_code next target }
 {
@@ -212,12 +218,14 @@ fn use_no(u: Use, next: usize, first: Evaluated, last: Evaluated) -> u8
     }
 }
 
+#[tactic(auto, unfolding(crate::specs::Places::operand_of))]
 fn address_place_no(bases: Bases, a: EvaluatedAddress) -> u8
     ensures { result ≡ placed_no (operand_of bases a) }
 {
     placed_no(operand_of(bases, a))
 }
 
+#[tactic(auto, unfolding(values::specs::Tests::lower, crate::specs::Places::operand_of))]
 fn two_places_no(bases: Bases, a: EvaluatedAddress, b: EvaluatedAddress) -> u8
     ensures { result ≡ lower (placed_no (operand_of bases a)) (placed_no (operand_of bases b)) }
 {
@@ -225,6 +233,7 @@ fn two_places_no(bases: Bases, a: EvaluatedAddress, b: EvaluatedAddress) -> u8
 }
 
 // `next`: the address behind the card.
+#[tactic(auto, unfolding(crate::specs::Places::places_no))]
 pub fn places_no(u: Use, x: Operands, next: usize, bases: Bases) -> u8
     ensures { result ≡ places_no u x next bases }
 {
@@ -292,6 +301,7 @@ fn registered(x: Operands, bases: Bases) -> Bases
 }
 
 // The bases behind a card.
+#[tactic(auto, unfolding(crate::specs::Places::bases_by))]
 pub fn bases_by(u: Use, x: Operands, bases: Bases) -> Bases
     ensures { result ≡ bases_by u x bases }
 {

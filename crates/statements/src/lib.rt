@@ -33,6 +33,7 @@ fn next_of(op: Operation, here: u32) -> usize
 }
 
 // The lowest of refusals 18 to 23 that holds, or 0.
+#[tactic(auto, unfolding(crate::specs::Statements::statement_no))]
 pub fn statement_no(op: Operation, x: Operands, here: u32, bases: Bases) -> u8
     ensures { result ≡ statement_no op x here bases }
 {
@@ -100,6 +101,7 @@ fn constants_of(copies: u32, length: u32, v: MaybeValue) -> Statement
 }
 
 // The statement, where every part of it is there.
+#[tactic(auto, unfolding(crate::specs::Statements::statement_from))]
 pub fn statement_from(op: Operation, x: Operands, here: u32, bases: Bases) -> Statement
     ensures { result ≡ statement_from op x here bases }
 {

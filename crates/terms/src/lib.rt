@@ -33,6 +33,7 @@ pub struct Digits {
     pub next: usize,
 }
 
+#[tactic(auto, unfolding(crate::specs::Terms::digits_from))]
 fn read_digits(s: &[u8], at: usize, base: u8, most: usize) -> Digits
     requires { base ≤ 16 }
     ensures { (result ≡ digits_from most base s.now at 0) × (result.value ≤ 65535) }
@@ -73,6 +74,7 @@ fn appended(value: u32, base: u8, digit: u8) -> u32
     value * (base as u32) + digit as u32
 }
 
+#[tactic(auto, unfolding(crate::specs::Terms::decimal_at))]
 pub fn read_decimal(s: &[u8], at: usize) -> Term
     ensures { result ≡ decimal_at s.now at }
 {
@@ -87,6 +89,7 @@ pub fn read_decimal(s: &[u8], at: usize) -> Term
     Term::Number(d.value as u16, next)
 }
 
+#[tactic(auto, unfolding(crate::specs::Terms::closed_at))]
 fn read_closed(s: &[u8], at: usize, value: u16) -> Term
     ensures { result ≡ closed_at s.now at value }
 {
@@ -97,6 +100,7 @@ fn read_closed(s: &[u8], at: usize, value: u16) -> Term
     }
 }
 
+#[tactic(auto, unfolding(crate::specs::Terms::numeral_at))]
 fn read_numeral(s: &[u8], at: usize, base: u8, most: usize) -> Term
     requires { base ≤ 16 }
     ensures { result ≡ numeral_at most base s.now at }
@@ -110,6 +114,7 @@ fn read_numeral(s: &[u8], at: usize, base: u8, most: usize) -> Term
 }
 
 // A hexadecimal term whose X stands at the position, and whose apostrophe follows.
+#[tactic(auto, unfolding(crate::specs::Terms::hex_at))]
 pub fn read_hex(s: &[u8], at: usize) -> Term
     requires { at + 2 < 2 ^ 64 }
     ensures { result ≡ hex_at s.now at }
@@ -117,6 +122,7 @@ pub fn read_hex(s: &[u8], at: usize) -> Term
     read_numeral(s, at + 2, 16, 4)
 }
 
+#[tactic(auto, unfolding(crate::specs::Terms::binary_at))]
 fn read_binary(s: &[u8], at: usize) -> Term
     requires { at + 2 < 2 ^ 64 }
     ensures { result ≡ binary_at s.now at }
@@ -124,6 +130,7 @@ fn read_binary(s: &[u8], at: usize) -> Term
     read_numeral(s, at + 2, 2, 16)
 }
 
+#[tactic(auto, unfolding(crate::specs::Terms::quoted_at))]
 pub fn quoted_at(s: &[u8], at: usize) -> Quoted
     ensures { result ≡ quoted_at s.now at }
 {
@@ -148,6 +155,7 @@ fn two_codes(a: u8, b: u8) -> u16
 }
 
 // Behind a first character of code a.
+#[tactic(auto, unfolding(crate::specs::Terms::quoted_at))]
 fn read_second(s: &[u8], a: u8, at: usize) -> Term
     ensures { result ≡ second_of s.now a (quoted_at s.now at) }
 {
@@ -158,6 +166,7 @@ fn read_second(s: &[u8], a: u8, at: usize) -> Term
     }
 }
 
+#[tactic(auto, unfolding(crate::specs::Terms::characters_at))]
 fn read_characters(s: &[u8], at: usize) -> Term
     requires { at + 2 < 2 ^ 64 }
     ensures { result ≡ characters_at s.now at }
@@ -169,6 +178,7 @@ fn read_characters(s: &[u8], at: usize) -> Term
     }
 }
 
+#[tactic(auto, unfolding(crate::specs::Terms::symbol_at))]
 fn read_symbol(s: &[u8], at: usize) -> Term
     ensures { result ≡ symbol_at s.now at }
 {
@@ -179,6 +189,7 @@ fn read_symbol(s: &[u8], at: usize) -> Term
 }
 
 // A term that a letter starts.
+#[tactic(auto, unfolding(crate::specs::Terms::lettered_at))]
 fn read_lettered(s: &[u8], at: usize) -> Term
     requires { at + 2 < 2 ^ 64 }
     ensures { result ≡ lettered_at s.now at }
@@ -199,6 +210,7 @@ fn read_lettered(s: &[u8], at: usize) -> Term
     read_symbol(s, at)
 }
 
+#[tactic(auto, unfolding(crate::specs::Terms::term_at))]
 pub fn read_term(s: &[u8], at: usize) -> Term
     ensures { result ≡ term_at s.now at }
 {

@@ -28,6 +28,7 @@ fn name_end(s: &[u8], at: usize) -> usize
     i
 }
 
+#[tactic(auto, unfolding(crate::specs::Names::name_byte))]
 fn name_byte(s: &[u8], at: usize, end: usize, k: usize) -> u64
     requires { at + k < 2 ^ 64 }
     ensures { (result ≡ name_byte s.now at end k) × (result < 256) }
@@ -39,6 +40,7 @@ fn name_byte(s: &[u8], at: usize, end: usize, k: usize) -> u64
     }
 }
 
+#[tactic(auto, unfolding(crate::specs::Names::name_number))]
 fn name_number(s: &[u8], at: usize, end: usize) -> u64
     requires { at + 6 < 2 ^ 64 }
     ensures { result ≡ name_number s.now at end }
@@ -52,6 +54,7 @@ fn name_number(s: &[u8], at: usize, end: usize) -> u64
     ((((a * 256 + b) * 256 + c) * 256 + d) * 256 + e) * 256 + f
 }
 
+#[tactic(auto, unfolding(crate::specs::Names::name_at))]
 pub fn read_name(s: &[u8], at: usize) -> NameRead
     ensures { result ≡ name_at s.now at }
 {

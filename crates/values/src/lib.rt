@@ -109,6 +109,7 @@ pub enum Moved {
 
 impl Relocatable {
     // The only sum that takes a displacement.
+    #[tactic(auto, unfolding(crate::specs::Values::moved_by))]
     pub fn plus(self, d: Displacement) -> Moved
         ensures { result ≡ moved_by d self }
     {

@@ -3,6 +3,7 @@ ghost use Rattle.std.specs.Prelude.{◌≡◌};
 ghost use Rattle.values.specs.Tests.{or_else, lower};
 
 // The first of two that holds.
+#[tactic(auto, unfolding(crate::specs::Tests::or_else))]
 pub fn or_else(a: u8, b: u8) -> u8
     ensures { result ≡ or_else a b }
 {
@@ -10,6 +11,7 @@ pub fn or_else(a: u8, b: u8) -> u8
 }
 
 // The lower of two that hold.
+#[tactic(auto, unfolding(crate::specs::Tests::lower))]
 pub fn lower_of(a: u8, b: u8) -> u8
     ensures { result ≡ lower a b }
 {

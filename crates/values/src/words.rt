@@ -21,6 +21,7 @@ pub fn wide16(w: u16) -> usize
     w as usize
 }
 
+#[tactic(auto, unfolding(crate::specs::Words::word))]
 pub fn word_at(s: &[u8], at: usize) -> u16
     requires { at + 2 ≤ length s.now }
     ensures { result ≡ word s.now at }
@@ -30,6 +31,7 @@ pub fn word_at(s: &[u8], at: usize) -> u16
     (high * 256 + low) as u16
 }
 
+#[tactic(auto, unfolding(crate::specs::Words::long))]
 pub fn long_at(s: &[u8], at: usize) -> usize
     requires { at + 4 ≤ length s.now }
     ensures { (result ≡ long s.now at) × (result < 4294967296) }

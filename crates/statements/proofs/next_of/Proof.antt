@@ -1,8 +1,0 @@
--- `next_of` meets its contract.
-use native.Mathlib.Omega.{arith}
-use borrow.Author.Rules.{rules}
-use Rattle.statements.proofs.next_of.Statement.{statement}
-use Rattle.statements.proofs.next_of.Tie as tie
-
-pub next_of_spec : {M : Type 1} → statement M
-next_of_spec = tie.close (tie.spec (λ c κs. search rules) (λ c. search rules) (λ c. omega arith))
