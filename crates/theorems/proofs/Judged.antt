@@ -115,6 +115,7 @@ module _ (s : List ℕ) (d : Displacement) (m : List ℕ) where
 
       there : {bytes : ℕ} {at : Entry} {x : List ℕ} → Load s d m (Loaded.Stored bytes at) x → Whole bytes at
       there (Load.is_stored b f i u o at x l) = (b, f, none_in fails51 b f i, none_in fails52 b f u, o, refl, x)
+      there (Load.is_refused x) = elim x [ ]
 
       back : Whole bytes at → loaded.answer ≡ Loaded.Stored bytes at
       back (b, f, inside, under, low, size, to) = go (load s d m)

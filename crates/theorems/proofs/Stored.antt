@@ -50,3 +50,4 @@ module _ (s : List ℕ) (d : Displacement) (m : List ℕ) where
           let are : c.records ≡ before ++ r ∷ later = ap (λ (x : Book). x.records) same ∙ rs in
           ap (λ x. get_or (stored_all d x m) (r.address + d.0 + i) 0) are
           ∙ stored-holds d (room_in m) before r later m 0 (rw are at (read-fair s c f)) (omega arith) (rw are at j) i h out
+      go (Load.is_refused x) = elim x [ ]

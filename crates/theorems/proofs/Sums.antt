@@ -107,6 +107,7 @@ bytes_of_load s d m bytes at h = go (rw h at (load s d m))
   where
     go : {bytes : ℕ} {at : Entry} {x : List ℕ} → Load s d m (Stored bytes at) x → (b : Book) × (book_of s ≡ some b) × (bytes ≡ total text_length b.records)
     go (Load.is_stored b f i u o at x l) = (b, f, stored_sum b.records)
+    go (Load.is_refused x) = elim x [ ]
 
 -- of the call: the answer's two numbers
 pub counts_of_call : (width : ℕ) (source work out : List ℕ) (bytes names : ℕ) → (assembling width source work out).answer ≡ Made bytes names
