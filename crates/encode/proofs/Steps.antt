@@ -3,6 +3,7 @@ use Prim.Native.Nat.{ℕ, zero, suc, ◌+◌, ◌-◌, ◌*◌, ◌/◌, ◌%◌
 use mathlib.Core.List.{List, [], ◌∷◌, ◌++◌}
 use mathlib.Core.Path.{◌≡◌, refl, sym, ap, ◌∙◌}
 use mathlib.Core.Bool.{Bool, true, false}
+use mathlib.Core.Logic.{inl, inr}
 use native.Mathlib.Omega.{arith}
 use lib.ListN.{length, set, length-append}
 use lib.Seq.{sets}
@@ -157,6 +158,18 @@ fieldless (Statement.OneAddress op q a) k = absurd (miss (2 ∷ 4 ∷ []) 1 tt k
 fieldless (Statement.Jump q byte) k = refl
 fieldless (Statement.AddressConstants n m v) k = absurd (miss (2 ∷ 4 ∷ []) 3 tt k)
 fieldless Statement.None k = refl
+
+-- they are what is left of the other three
+pub fieldless_left : (s : Statement)
+    → ((op : Operation) (q : ℕ) (a b : Operand) → s ≡ Statement.TwoAddresses op q a b → ⊥)
+    → ((op : Operation) (q : ℕ) (a : Operand) → s ≡ Statement.OneAddress op q a → ⊥)
+    → ((n m : ℕ) (v : Value) → s ≡ Statement.AddressConstants n m v → ⊥)
+    → OneOf (2 ∷ 4 ∷ []) (tag_of the_type s)
+fieldless_left (Statement.TwoAddresses op q a b) two one more = absurd (two op q a b refl)
+fieldless_left (Statement.OneAddress op q a) two one more = absurd (one op q a refl)
+fieldless_left (Statement.Jump q byte) two one more = inl refl
+fieldless_left (Statement.AddressConstants n m v) two one more = absurd (more n m v refl)
+fieldless_left Statement.None two one more = inr refl
 
 -- SIZES AND COUNTS
 

@@ -114,7 +114,6 @@ fn place_of(b: u8) -> usize
 }
 
 // The EBCDIC code of a byte; 0 where it is not accepted.
-#[tactic(auto, unfolding(crate::specs::Table::table, crate::specs::Letters::code_of))]
 pub fn code_of(b: u8) -> u8
     ensures { result ≡ code_of b }
 {

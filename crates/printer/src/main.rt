@@ -4,7 +4,7 @@
 ghost use Rattle.std.specs.Prelude.{◌≤◌, ◌<◌, length};
 ghost use Rattle.printer.specs.Input.{read_of};
 
-use libc::{STDERR_FILENO, STDIN_FILENO, STDOUT_FILENO};
+use std::io::{Print, Read, Stdin};
 
 // How many bytes were read, 0 at the end of the input, or that it can't be read.
 #[derive(Clone, Copy)]
@@ -13,24 +13,23 @@ enum Input {
     Failed,
 }
 
-fn read_piece(room: &mut [u8]) -> Input
+fn read_piece(mut from: Stdin, room: &mut [u8]) -> Input
     ensures { read_of result ≤ length room.old }
 {
-    let got = libc::read(STDIN_FILENO, room);
-    if got < 0 {
-        return Input::Failed;
+    match from.read(room) {
+        Ok(got) => Input::Read(got),
+        Err(_) => Input::Failed,
     }
-    Input::Read(io::count(got, room))
 }
 
 // Reads until the input ends or the buffer is full, in whatever pieces it comes. The buffer has room for one byte more than a book to print, so that a longer input shows.
-fn read_input(buffer: &mut [u8]) -> Input
+fn read_input(from: Stdin, buffer: &mut [u8]) -> Input
     requires { 65536 < length buffer.old }
     ensures { read_of result ≤ length buffer.new }
 {
     let mut have = 0;
     while have < buffer.len() {
-        match read_piece(&mut buffer[have..]) {
+        match read_piece(from, &mut buffer[have..]) {
             Input::Failed => {
                 return Input::Failed;
             }
@@ -46,27 +45,29 @@ fn read_input(buffer: &mut [u8]) -> Input
 }
 
 // What the printer writes for the first bytes of a buffer.
-fn print_input(input: &[u8], have: usize)
+fn print_input(rt: &HostRuntime, input: &[u8], have: usize)
     requires { have ≤ length input.now }
 {
     let mut out = [0u8; 196608];
     let length = print::print_book(&input[..have], &mut out);
-    if !io::write_all(STDOUT_FILENO, &out[..length]) {
-        io::write_all(
-            STDERR_FILENO,
-            b"printer: standard output can't be written\n",
-        );
+    if rt.stdout().write_all(&out[..length]).is_err() {
+        tell(rt, b"printer: standard output can't be written\n");
     }
 }
 
-fn main() {
+// To standard error; where that fails too, nothing is left to say.
+fn tell(rt: &HostRuntime, line: &[u8]) {
+    let _told = rt.stderr().write_all(line);
+}
+
+fn main(rt: HostRuntime) {
     let mut buffer = [0u8; 65537];
-    match read_input(&mut buffer) {
+    match read_input(rt.stdin(), &mut buffer) {
         Input::Failed => {
-            io::write_all(STDERR_FILENO, b"printer: standard input can't be read\n");
+            tell(&rt, b"printer: standard input can't be read\n");
         }
         Input::Read(have) => {
-            print_input(&buffer, have);
+            print_input(&rt, &buffer, have);
         }
     }
 }
