@@ -1,4 +1,4 @@
-// What the emulator calls: numbers and lent bytes in, packed answers out.
+// What the emulator calls through mersclund_c: numbers and lent bytes in, packed answers out.
 #![tactic(auto)]
 
 ghost use Rattle.std.specs.Prelude.{◌≡◌, ◌<◌, ◌^◌};
@@ -46,8 +46,7 @@ fn pack_load(answer: Loaded) -> u64
 }
 
 // Loads any book, moved by any displacement, into any storage.
-#[unsafe(no_mangle)]
-pub extern "C" fn mersclund_load(book: &[u8], displacement: u16, storage: &mut [u8]) -> u64
+pub fn mersclund_load(book: &[u8], displacement: u16, storage: &mut [u8]) -> u64
     ensures value { result ≡ packed_load (loading book.now (record { 0 = displacement }) storage.old).answer }
     ensures storage_after { storage.new ≡ (loading book.now (record { 0 = displacement }) storage.old).storage }
 {
@@ -64,8 +63,7 @@ fn pack_assembled(answer: Assembled) -> u64
 }
 
 // Assembles any source of cards of any width into any output, with any work area.
-#[unsafe(no_mangle)]
-pub extern "C" fn mersclund_assemble(
+pub fn mersclund_assemble(
     width: u32,
     source: &[u8],
     work: &mut [u8],

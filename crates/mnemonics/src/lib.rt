@@ -160,7 +160,6 @@ fn operation_in(row: usize) -> Operation
     o
 }
 
-#[tactic(auto, unfolding(crate::specs::Rows::operation_in, crate::specs::Model10::model10))]
 fn operation_of(key: u64) -> Operation
     ensures { result ≡ operation_in model10 key }
 {
@@ -197,7 +196,7 @@ fn word_number(s: &[u8], from: usize, to: usize) -> u64
 }
 
 // The operation whose letters stand between two positions of a card.
-#[tactic(auto, unfolding(crate::specs::Rows::operation_at, crate::specs::Model10::model10))]
+#[tactic(auto, unfolding(crate::specs::Rows::operation_at))]
 pub fn operation_at(s: &[u8], from: usize, to: usize) -> Operation
     ensures { result ≡ operation_at model10 s.now from to }
 {

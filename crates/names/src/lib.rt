@@ -78,7 +78,6 @@ fn meaning_at(t: &[u8], at: usize) -> Meaning
 }
 
 // How many names come before a number, by bisection.
-#[tactic(auto, unfolding(crate::specs::Names::ascending, crate::specs::Table::names_in, crate::specs::Steps::below))]
 fn place(t: &[u8], count: usize, number: u64) -> usize
     requires { (16 * count ≤ length t.now) × (ascending (names_in count t.now) ≡ true) }
     ensures { (result ≡ below number (names_in count t.now)) × (result ≤ count) }
@@ -97,7 +96,6 @@ fn place(t: &[u8], count: usize, number: u64) -> usize
 }
 
 // What the first `count` records say of a number.
-#[tactic(auto, unfolding(crate::specs::Names::ascending, crate::specs::Table::names_in, crate::specs::Names::find))]
 pub fn look_up(t: &[u8], count: usize, number: u64) -> Meaning
     requires { (16 * count ≤ length t.now) × (ascending (names_in count t.now) ≡ true) }
     ensures { result ≡ find (names_in count t.now) number }
@@ -113,7 +111,6 @@ pub fn look_up(t: &[u8], count: usize, number: u64) -> Meaning
 }
 
 // The bytes from `from` to `to` go 16 places up.
-#[tactic(auto, unfolding(crate::specs::Steps::shifted))]
 fn shift_up(t: &mut [u8], from: usize, to: usize)
     requires { (from ≤ to) × (to + 16 ≤ length t.old) }
     ensures { t.new ≡ shifted from to t.old }
@@ -157,7 +154,7 @@ fn put_name(t: &mut [u8], at: usize, x: Name)
 }
 
 // A name more: the names above it go one record up, and it takes the place that they leave.
-#[tactic(auto, unfolding(crate::specs::Steps::put, crate::specs::Names::ascending, crate::specs::Table::names_in, crate::specs::Names::defined))]
+#[tactic(auto, unfolding(crate::specs::Steps::put))]
 pub fn define(t: &mut [u8], count: usize, x: Name)
     requires { (16 * count + 16 ≤ length t.old) × (ascending (names_in count t.old) ≡ true) × (x.number < 2 ^ 48) }
     ensures t_after { names_in (count + 1) t.new ≡ defined x (names_in count t.old) }
@@ -170,7 +167,7 @@ pub fn define(t: &mut [u8], count: usize, x: Name)
 }
 
 // 16 or 17 for a name that is to be defined, or 0.
-#[tactic(auto, unfolding(crate::specs::Names::name_refusal, crate::specs::Names::ascending, crate::specs::Table::names_in))]
+#[tactic(auto, unfolding(crate::specs::Names::name_refusal))]
 pub fn name_refusal(t: &[u8], count: usize, limit: usize, number: u64) -> u8
     requires { (16 * count ≤ length t.now) × (ascending (names_in count t.now) ≡ true) }
     ensures { result ≡ name_refusal limit (names_in count t.now) number }
@@ -182,7 +179,6 @@ pub fn name_refusal(t: &[u8], count: usize, limit: usize, number: u64) -> u8
 }
 
 // The first n bytes become zero.
-#[tactic(auto, unfolding(crate::specs::Table::zeroed))]
 pub fn clear(t: &mut [u8], n: usize)
     requires { n ≤ length t.old }
     ensures { t.new ≡ zeroed n t.old }
