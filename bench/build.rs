@@ -1,5 +1,5 @@
 //! Links the proved library: MERSCLUND_LIB is the directory of libmersclund.a, if it isn't where
-//! `rt staticlib mersclund` writes it.
+//! `tools/build archive` writes it.
 
 use std::env;
 

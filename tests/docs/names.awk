@@ -95,7 +95,7 @@ function quoted(text,    name, names, n) {
     else if (text ~ /\/./ && path_of(text) != "") held("file", text, found(path_of(text)))
     else if (text ~ /^[a-z][a-z0-9_]*\/[a-z0-9_]+$/) held("edit", text, 0)
     else if (text ~ /^[A-Za-z0-9_-]+\.(antt|rt|md|rs|h|c|sh|txt|edit)$/) held("file", text, text in base)
-    else if (text ~ /^[a-z][a-z0-9]*(-[a-z0-9]+)+$/) held("theorem", text, text in theorem || text in base)
+    else if (text ~ /^[a-z][a-z0-9_]*(-[a-z0-9_]+)+$/) held("theorem", text, text in theorem || text in base)
     else if (text ~ /^[A-Za-z_][A-Za-z0-9_]*(::[A-Za-z_][A-Za-z0-9_]*)*$/ && text ~ /::|[a-z0-9]_[a-z0-9]|[a-z][a-z0-9]+[A-Z]/) {
         n = split(text, names, "::")
         for (name = 1; name <= n; name++) held("name in the code", names[name], ("word", names[name]) in there)
