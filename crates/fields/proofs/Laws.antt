@@ -1,11 +1,11 @@
 -- Laws on the listed fields of a record: where they stand, and a turn of a loop over them.
-use Prim.Native.Nat.{ℕ, zero, suc, ◌+◌, ◌-◌, ◌≤◌, ◌<◌}
+use Prim.Native.Nat.{ℕ, zero, suc, ◌+◌, ◌≤◌, ◌<◌}
 use mathlib.Core.List.{List, [], ◌∷◌}
 use mathlib.Core.Path.{◌≡◌, refl, sym, ap, ◌∙◌}
 use mathlib.Core.Bool.{true, false}
 use mathlib.Core.Logic.{◌⊎◌, inl, inr}
 use native.Mathlib.Omega.{arith}
-use lib.ListN.{length, get_or}
+use lib.ListN.{length, get_or, drop, drop_of_length-le}
 use lib.Dec.{leb}
 use lib.Seq.{sets, length-sets}
 use borrow.Author.Tests.{le-leb, leb-true}
@@ -17,7 +17,7 @@ use Rattle.values.specs.declared.Relocatable.{Relocatable}
 use Rattle.values.specs.declared.Moved.{Moved}
 use Rattle.values.specs.declared.Moved.TheVariants.{To, Over}
 use Rattle.values.proofs.Sums.{moved_to}
-use Rattle.values.proofs.Laws.{clash, both_true, sets_over, sets-sets}
+use Rattle.values.proofs.Laws.{clash, both_true, drop_turn, sets_over, sets-sets}
 use Rattle.book.proofs.Places.{fields-length}
 use Rattle.book.specs.Book.{Record, fields_fit}
 use Rattle.book.specs.declared.Place.{Place}
@@ -40,6 +40,15 @@ fits_each least size (o ∷ os) e (suc k) h =
 module _ (s : List ℕ) (p : Place) (ok : Sound s p) where
   pub offset_inside : (i : ℕ) → i < p.count → get_or (record_there s p).fields i 0 + 2 ≤ p.size
   offset_inside i h = let n = fields-length s p ok in fits_each 0 p.size (record_there s p).fields ok.inside i (omega arith)
+
+  -- the offsets left, the one at hand first; and none left
+  pub fields_left : (i o : ℕ) → i < p.count → o ≡ get_or (record_there s p).fields i 0 → drop i (record_there s p).fields ≡ o ∷ drop (i + 1) (record_there s p).fields
+  fields_left i o h e =
+      let n = fields-length s p ok in
+      drop_turn (record_there s p).fields i (omega arith) ∙ ap (λ x. x ∷ drop (i + 1) (record_there s p).fields) (sym e)
+
+  pub fields_done : (i : ℕ) → p.count ≤ i → drop i (record_there s p).fields ≡ []
+  fields_done i h = let n = fields-length s p ok in drop_of_length-le (record_there s p).fields {i = i} (omega arith)
 
 -- A SUM
 
