@@ -275,3 +275,9 @@ module _ (s : List ℕ) (at last : ℕ) (P : List Record → Type 0) (l : Left s
   no_more (Step.Record p c) k q = absurd (⊎_elim (λ h. omega arith) (λ h. omega arith) k)
   no_more End k q = ended q
   no_more Broken k q = absurd (never q)
+
+  -- the reader gave none: it is the end
+  pub no_record : (x : Step) → ((p : Place) (c : Cursor) → x ≡ Step.Record p c → ⊥) → x ≡ step_at s at last → P []
+  no_record (Step.Record p c) n q = absurd (n p c refl)
+  no_record End n q = ended q
+  no_record Broken n q = absurd (never q)

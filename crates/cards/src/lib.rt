@@ -155,7 +155,6 @@ fn name_ends(s: &[u8], at: usize) -> bool
     if s.len() <= at { true } else { blank_at(s, at) }
 }
 
-#[tactic(auto, unfolding(terms::specs::Names::name_at))]
 fn read_named(s: &[u8]) -> Card
     ensures { result ≡ named_card s.now (name_at s.now 0) }
 {

@@ -29,7 +29,6 @@ pub fn joins_at(s: &[u8], at: usize) -> bool
     if b == b'+' { true } else { b == b'-' }
 }
 
-#[tactic(auto, unfolding(crate::specs::Form::factors_at))]
 fn factors_form(s: &[u8], at: usize) -> Form
     ensures { result ≡ form_of (factors_at s.now at) }
 {

@@ -46,7 +46,6 @@ pub enum Multiplied {
 }
 
 // The factors behind what is held of a product.
-#[tactic(auto, unfolding(names::specs::Names::ascending, names::specs::Table::names_in, crate::specs::Steps::held_on, names::specs::Names::find, crate::specs::Form::factors_at))]
 fn multiply_on(s: &[u8], at: usize, h: Held, table: &[u8], count: usize, here: u32) -> Multiplied
     requires { (16 * count ≤ length table.now) × (ascending (names_in count table.now) ≡ true) }
     ensures { result ≡ held_on (find (names_in count table.now)) here h (factors_at s.now at) }
@@ -68,7 +67,7 @@ fn multiply_on(s: &[u8], at: usize, h: Held, table: &[u8], count: usize, here: u
     Multiplied::Product(held, q)
 }
 
-#[tactic(auto, unfolding(names::specs::Names::ascending, names::specs::Table::names_in, crate::specs::Steps::held_at, names::specs::Names::find, crate::specs::Form::product_at))]
+#[tactic(auto, unfolding(crate::specs::Steps::held_at, crate::specs::Form::product_at))]
 fn multiply(s: &[u8], at: usize, table: &[u8], count: usize, here: u32) -> Multiplied
     requires { (16 * count ≤ length table.now) × (ascending (names_in count table.now) ≡ true) }
     ensures { result ≡ held_at (find (names_in count table.now)) here (product_at s.now at) }
@@ -138,7 +137,6 @@ fn end(r: Running) -> Evaluated
 }
 
 // The value of the expression at a position, or why it has none.
-#[tactic(auto, unfolding(names::specs::Names::ascending, names::specs::Table::names_in, crate::specs::Value::evaluated, names::specs::Names::find))]
 pub fn evaluate(s: &[u8], at: usize, table: &[u8], count: usize, here: u32) -> Evaluated
     requires { (16 * count ≤ length table.now) × (ascending (names_in count table.now) ≡ true) }
     ensures { result ≡ evaluated (find (names_in count table.now)) here (expression_at s.now at) }

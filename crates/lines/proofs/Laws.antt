@@ -1,6 +1,6 @@
 -- What callers cite of a line: its operand lies inside the columns, its name's number has six bytes, and its shape is its operation's.
 use Prim.{Unit, tt}
-use Prim.Native.Nat.{ℕ, ◌-◌, ◌≤◌, ◌<◌, ◌^◌}
+use Prim.Native.Nat.{ℕ, ◌≤◌, ◌<◌, ◌^◌}
 use mathlib.Core.List.{List}
 use mathlib.Core.Bool.{Bool, true, false}
 use mathlib.Core.Path.{◌≡◌, sym, ◌∙◌, subst}

@@ -8,7 +8,6 @@ use borrow.Author.Tests.{eq-eqb, ne_eqb}
 use Rattle.values.proofs.Laws.{clash}
 use Rattle.values.specs.Words.{part}
 use Rattle.names.specs.declared.Meaning.{Meaning}
-use Rattle.statements.specs.declared.Statement.{Statement as Stated}
 use Rattle.book.specs.Book.{Record, rest_head}
 use Rattle.book.specs.Writing.{head_bytes, record_bytes, record_length, records_bytes}
 use Rattle.book.proofs.Written.{record_length_lem}

@@ -95,7 +95,7 @@ fn constant_of(d: Data, o: &[u8], table: &[u8], count: usize, here: u32) -> Oper
 }
 
 // Every expression of an operand, evaluated.
-#[tactic(auto, unfolding(crate::specs::Operands::operands_of, names::specs::Names::ascending, names::specs::Table::names_in, names::specs::Names::find))]
+#[tactic(auto, unfolding(crate::specs::Operands::operands_of))]
 pub fn operands_of(shape: Shape, o: &[u8], table: &[u8], count: usize, here: u32) -> Operands
     requires { (16 * count ≤ length table.now) × (ascending (names_in count table.now) ≡ true) }
     ensures { result ≡ operands_of (find (names_in count table.now)) here o.now shape }
