@@ -169,7 +169,6 @@ fn read_header(book: &[u8]) -> Layout
 }
 
 // The whole book: its header and every record.
-#[tactic(auto, unfolding(crate::specs::Reading::layout_of))]
 pub fn read_layout(book: &[u8]) -> Layout
     ensures { result ≡ layout_of book.now }
 {

@@ -22,7 +22,6 @@ pub fn offset_at(book: &[u8], p: Place, i: usize) -> usize
 }
 
 // The field at an offset of the text, moved.
-#[tactic(auto, unfolding(values::specs::Values::moved_by))]
 pub fn moved_field(book: &[u8], p: Place, offset: usize, d: Displacement) -> Moved
     requires fact_1 { Sound book.now p }
     requires fact_2 { offset + 2 ≤ p.size }

@@ -67,7 +67,6 @@ fn fails_test(test: Test, book: &[u8], p: Place, d: Displacement) -> bool
 }
 
 // The card of the first record that fails a test; 0 where none does.
-#[tactic(auto, unfolding(crate::specs::Load::first_card, book::specs::Reading::records_in))]
 fn first_failing(test: Test, book: &[u8], d: Displacement) -> u16
     requires { Kept book.now }
     ensures { result ≡ first_card (fails_test test d) (records_in book.now) }
@@ -89,7 +88,6 @@ fn first_failing(test: Test, book: &[u8], d: Displacement) -> u16
 }
 
 // Every record in order, its fields moved; how many bytes that is.
-#[tactic(auto, unfolding(crate::specs::Load::first_card, book::specs::Reading::records_in, crate::specs::Load::bytes_stored, crate::specs::Load::stored_all))]
 fn store_all(book: &[u8], d: Displacement, m: &mut [u8]) -> usize
     requires kept { Kept book.now }
     requires book_value { first_card (outside d (room_in m.old)) (records_in book.now) ≡ 0 }
@@ -148,7 +146,6 @@ fn load_whole(book: &[u8], entry: Entry, d: Displacement, storage: &mut [u8]) ->
 }
 
 // Any book, displacement and storage.
-#[tactic(auto, unfolding(crate::specs::Load::loading))]
 pub fn load_book(book: &[u8], d: Displacement, storage: &mut [u8]) -> Loaded
     ensures value { result ≡ (loading book.now d storage.old).answer }
     ensures storage_after { storage.new ≡ (loading book.now d storage.old).storage }

@@ -18,7 +18,6 @@ fn digit(n: u8) -> u8
 }
 
 // Bytes in hex, and the byte that ends the column; the place behind it.
-#[tactic(auto, unfolding(crate::specs::Print::column))]
 fn put_column(m: &mut [u8], to: usize, bytes: &[u8], end: u8) -> usize
     requires { to + (2 * length bytes.now + 1) ≤ length m.old }
     ensures value { result ≡ to + (2 * length bytes.now + 1) }
@@ -64,7 +63,6 @@ fn put_byte_column(m: &mut [u8], to: usize, n: u8) -> usize
 }
 
 // The first eight bytes of the book, as a line.
-#[tactic(auto, unfolding(crate::specs::Print::header_line))]
 fn put_header_line(m: &mut [u8], book: &[u8]) -> usize
     requires { (20 ≤ length m.old) × (8 ≤ length book.now) }
     ensures value { result ≡ 20 }
@@ -96,7 +94,6 @@ fn put_offsets(m: &mut [u8], to: usize, book: &[u8], p: Place) -> usize
 }
 
 // Length of the record's rest, card, address, count.
-#[tactic(auto, unfolding(crate::specs::Print::head_columns))]
 fn put_head_columns(m: &mut [u8], to: usize, p: Place) -> usize
     requires { (p.count ≤ 128) × (p.size ≤ 256) × (to + 18 ≤ length m.old) }
     ensures value { result ≡ to + 18 }
@@ -123,7 +120,6 @@ fn put_text(m: &mut [u8], to: usize, book: &[u8], p: Place) -> usize
 }
 
 // The line of a record.
-#[tactic(auto, unfolding(crate::specs::Print::record_line))]
 fn put_record(m: &mut [u8], to: usize, book: &[u8], p: Place) -> usize
     requires fact_1 { Sound book.now p }
     requires fact_2 { to + line_length p.count p.size ≤ length m.old }
@@ -149,7 +145,6 @@ fn line_length(p: Place) -> usize
 }
 
 // How long the lines of all records are together.
-#[tactic(auto, unfolding(crate::specs::Print::record_lines, book::specs::Reading::records_in))]
 fn lines_length(book: &[u8]) -> usize
     requires { Kept book.now }
     ensures { (result ≡ length (record_lines (records_in book.now))) × (result ≤ 3152000) }
@@ -170,7 +165,6 @@ fn lines_length(book: &[u8]) -> usize
 }
 
 // The lines of all records.
-#[tactic(auto, unfolding(crate::specs::Print::record_lines, book::specs::Reading::records_in))]
 fn put_records(m: &mut [u8], to: usize, book: &[u8])
     requires kept { Kept book.now }
     requires book_in_bounds { to + length (record_lines (records_in book.now)) ≤ length m.old }
@@ -192,7 +186,6 @@ fn put_records(m: &mut [u8], to: usize, book: &[u8])
 }
 
 // The lines of a book that keeps its layout, where there is room for them; how long they are.
-#[tactic(auto, unfolding(crate::specs::Print::book_lines, crate::specs::Print::where_room))]
 fn print_lines(book: &[u8], out: &mut [u8]) -> usize
     requires { Kept book.now }
     ensures value { result ≡ length (book_lines book.now) }
