@@ -1,5 +1,7 @@
 -- ACCEPTED EXACTLY WHEN (R21.3), by the order of R13.1.
-use Rattle.theorems.specs.Logic.{ℕ, zero, suc, ◌+◌, ◌≤◌, List, [], ◌∷◌, Bool, true, false, ◌≡◌, refl, sym, ap, ◌∙◌, ◌⊎◌, inl, inr, ◌↔◌, arith, length, get_or, eqb, eqb-true, eqb-false, add-zero}
+use Rattle.std.specs.Prelude.{◌+◌, ◌≤◌, ◌∷◌, ◌≡◌, ◌⊎◌, ◌↔◌}
+use Rattle.std.proofs.Common.{◌∙◌}
+use Rattle.theorems.specs.Logic.{ℕ, zero, suc, List, [], Bool, true, false, refl, sym, ap, inl, inr, arith, length, get_or, eqb, eqb-true, eqb-false, add-zero}
 use Rattle.theorems.specs.Types.{Phase, Line, Reading, Book, clean, bad, State, through, stopped, Result, made, refused}
 use Rattle.names.specs.Names.{find}
 use Rattle.passes.specs.One.{reading_no, fresh, one_no, step_one, ended_as, pass_one}

@@ -1,7 +1,9 @@
 -- DEMAND 3, of the calls. Two sources whose statement columns agree on every card but START's, where the name fields agree and the values are s and s + d;
 -- each has its own work area and its own output, and both are accepted. Then both answers are the same, and for every storage loading the first book with d
 -- and the second with 0 gives the same answer and the same storage, a refusal included, overlaid fields included.
-use Rattle.theorems.specs.Logic.{ℕ, ◌+◌, List, [], ◌∷◌, map, ◌≡◌, refl, sym, ap, ◌∙◌, some, arith, take}
+use Rattle.std.specs.Prelude.{◌+◌, ◌∷◌, ◌≡◌}
+use Rattle.std.proofs.Common.{◌∙◌}
+use Rattle.theorems.specs.Logic.{ℕ, List, [], map, refl, sym, ap, some, arith, take}
 use Rattle.theorems.specs.Types.{Displacement, Record, Book}
 use Rattle.book.specs.Book.{book_of}
 use Rattle.cards.specs.Source.{cards_of}

@@ -1,5 +1,7 @@
 -- THE ENTRY (R21.3, R12.1, R12.2). END is the last card of an accepted source, and the book's entry is its operand, or none.
-use Rattle.theorems.specs.Logic.{ℕ, zero, suc, ◌<◌, List, [], ◌∷◌, ◌⊎◌, inl, inr, ◌≡◌, refl, sym, ap, ◌∙◌, arith, length, get_or}
+use Rattle.std.specs.Prelude.{◌<◌, ◌∷◌, ◌⊎◌, ◌≡◌}
+use Rattle.std.proofs.Common.{◌∙◌}
+use Rattle.theorems.specs.Logic.{ℕ, zero, suc, List, [], inl, inr, refl, sym, ap, arith, length, get_or}
 use Rattle.theorems.specs.Types.{MaybeValue, Meaning, Entry, Line, Reading, Role, Phase, Course, Book, State, through, made}
 use Rattle.values.proofs.Laws.{clash}
 use Rattle.lines.specs.Lines.{reading_of}

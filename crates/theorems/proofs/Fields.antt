@@ -1,6 +1,8 @@
 -- FIELDS (R21.4, R16.6, R16.9): for every card of an accepted source the list holds exactly the places of its two-byte values
 -- that are relocatable, each once; every other byte of its text stays what it is.
-use Rattle.theorems.specs.Logic.{ℕ, zero, suc, ◌+◌, ◌≤◌, ◌<◌, List, [], ◌∷◌, ◌++◌, map, List-as-Memᴰ, List·Memᴰ·cases-cons, List·Memᴰ·not-nil, Memᴰ·cast, List·Memᴰ·head, List·Memᴰ·tail, true, false, ◌≡◌, refl, sym, ap, ◌∙◌, subst, ◌⊎◌, inl, inr, ◌↔◌, add-zero, arith, length, get_or, leb, sets, length-sets, leb-true}
+use Rattle.std.specs.Prelude.{◌+◌, ◌≤◌, ◌<◌, ◌∷◌, ◌++◌, ◌≡◌, ◌⊎◌, ◌↔◌}
+use Rattle.std.proofs.Common.{◌∙◌}
+use Rattle.theorems.specs.Logic.{ℕ, zero, suc, List, [], map, List-as-Memᴰ, List·Memᴰ·cases-cons, List·Memᴰ·not-nil, Memᴰ·cast, List·Memᴰ·head, List·Memᴰ·tail, true, false, refl, sym, ap, subst, inl, inr, add-zero, arith, length, get_or, leb, sets, length-sets, leb-true}
 use Rattle.theorems.specs.Types.{Value, Relocatable as Place, Meaning, Displacement, Course, Record, Book, Piece, plain, value, made}
 use Rattle.values.proofs.Laws.{both_true}
 use Rattle.values.specs.Words.{word, two_bytes}

@@ -1,6 +1,8 @@
 -- THE PASSES AGREE (R13.5). EQU and ORG use only earlier names (R7.7), and names only grow, so pass two finds there what pass one found:
 -- it refuses no EQU and no ORG, and its counter before every card is pass one's.
-use Rattle.theorems.specs.Logic.{ℕ, ◌+◌, zero, suc, ◌≤◌, ◌<◌, List, [], ◌∷◌, map, Bool, true, false, ◌≡◌, refl, sym, ap, ◌∙◌, subst, arith, eqb, eqb-true, ◌⊎◌, inl, inr, length, get_or}
+use Rattle.std.specs.Prelude.{◌+◌, ◌≤◌, ◌<◌, ◌∷◌, ◌≡◌, ◌⊎◌}
+use Rattle.std.proofs.Common.{◌∙◌}
+use Rattle.theorems.specs.Logic.{ℕ, zero, suc, List, [], map, Bool, true, false, refl, sym, ap, subst, arith, eqb, eqb-true, inl, inr, length, get_or}
 use Rattle.theorems.specs.Types.{Value, Term, Name, Meaning, Factor, Line, Reading, MaybeValue, Shape, Operands, Bases, Role, Course, Evaluated, Pattern, Addend, Read, State, through}
 use Rattle.values.specs.Tests.{pick, or_else}
 use Rattle.names.specs.Names.{find, defined, name_refusal}

@@ -1,6 +1,8 @@
 -- REFUSED EXACTLY WHEN, of a load (R21.3). R17.4: 50, then 51, then 52, each over the whole book.
 -- R17.7, R17.8: 51 and 52 with the card of the first record that fails, 52 with 0 for the entry.
-use Rattle.theorems.specs.Logic.{ℕ, List, [], ◌∷◌, List-as-Memᴰ, List·Memᴰ·cases-cons, List·Memᴰ·not-nil, List·Memᴰ·head, List·Memᴰ·tail, Bool, true, false, none, some, ◌≡◌, refl, sym, ap, ◌∙◌, ◌⊎◌, inl, inr, ◌↔◌, arith}
+use Rattle.std.specs.Prelude.{◌∷◌, ◌≡◌, ◌⊎◌, ◌↔◌}
+use Rattle.std.proofs.Common.{◌∙◌}
+use Rattle.theorems.specs.Logic.{ℕ, List, [], List-as-Memᴰ, List·Memᴰ·cases-cons, List·Memᴰ·not-nil, List·Memᴰ·head, List·Memᴰ·tail, Bool, true, false, none, some, refl, sym, ap, inl, inr, arith}
 use Rattle.theorems.specs.Types.{Displacement, Entry, Loaded, Record, Book}
 use Rattle.book.specs.Book.{book_of}
 use Rattle.book.specs.Writing.{fair_all}

@@ -1,5 +1,6 @@
 -- Which shapes an operand has by its pattern, and what an operation's row says of them: all that is told of the single operations.
-use Rattle.theorems.specs.Logic.{Unit, tt, ℕ, ◌+◌, List, Bool, true, false, ◌≡◌, refl, length, ltb}
+use Rattle.std.specs.Prelude.{◌+◌, ◌≡◌}
+use Rattle.theorems.specs.Logic.{Unit, tt, ℕ, List, Bool, true, false, refl, length, ltb}
 use Rattle.theorems.specs.Types.{Term, Form, Operation, Role, Pattern, Use, Rule, Traits, Data, DataForm, Address, Addressed, Shape, Line}
 use Rattle.values.specs.Tests.{pick}
 use Rattle.letters.specs.Text.{stands}

@@ -1,7 +1,9 @@
 -- MOVED IS RAISED (R21.4). Two decks whose statement columns agree on every card but START's, where the names agree and the values are s and s + d;
 -- both are accepted. Then the counts of names agree, the second book is the first moved by d as the loader moves it,
 -- and loading the first by d and the second by 0 gives the same answer and the same storage, for every storage: 51 and 52 included, overlaid fields included.
-use Rattle.theorems.specs.Logic.{tt, ℕ, ◌+◌, ◌≤◌, List, [], ◌∷◌, ◌++◌, map, List-as-Memᴰ, Memᴰ·map, Bool, true, false, ◌≡◌, refl, sym, ap, ◌∙◌, subst, arith, length, get_or, length-append, length-map, eqb}
+use Rattle.std.specs.Prelude.{◌+◌, ◌≤◌, ◌∷◌, ◌++◌, ◌≡◌}
+use Rattle.std.proofs.Common.{◌∙◌}
+use Rattle.theorems.specs.Logic.{tt, ℕ, List, [], map, List-as-Memᴰ, Memᴰ·map, Bool, true, false, refl, sym, ap, subst, arith, length, get_or, length-append, length-map, eqb}
 use Rattle.theorems.specs.Types.{Name, Shape, Record, Book, clean, State, through, made}
 use Rattle.values.specs.Tests.{pick}
 use Rattle.values.specs.declared.Value.TheVariants.{Relocatable}

@@ -1,5 +1,6 @@
 -- R14.1: what the two passes refuse with is 9 to 24.
-use Rattle.theorems.specs.Logic.{ℕ, ◌+◌, ◌≤◌, List, Bool, true, false, ◌≡◌, refl, subst, ◌⊎◌, inl, inr, arith, length, ltb, leb, eqb, eqb-true, leb-true}
+use Rattle.std.specs.Prelude.{◌+◌, ◌≤◌, ◌≡◌, ◌⊎◌}
+use Rattle.theorems.specs.Logic.{ℕ, List, Bool, true, false, refl, subst, inl, inr, arith, length, ltb, leb, eqb, eqb-true, leb-true}
 use Rattle.theorems.specs.Types.{Meaning, MaybeValue, MaybeAbsolute, Operation, Role, Naming, Use, DataCard, Data, EvaluatedItem, EvaluatedAddress, Operands, Bases, Placed, Code, Wanted, Evaluated, Shape, Line, Reading, Phase, Course, State, refused}
 use Rattle.values.proofs.Laws.{both_true}
 use Rattle.values.specs.Tests.{either, both, pick, or_else, lower}

@@ -1,5 +1,7 @@
 -- What follows from the answer of a call: the ways an assembly and a load can go, told by the answer and the lent bytes that each leaves.
-use Rattle.theorems.specs.Logic.{ℕ, zero, suc, ◌+◌, ◌/◌, ◌%◌, ◌≤◌, List, Bool, true, false, Option, none, some, ◌≡◌, refl, sym, ap, ◌∙◌, arith, length, ltb, leb, eqb, sets, eqb-true, eqb-false, ltb-true, ltb-false, le-leb, le-ltb, lt-ltb}
+use Rattle.std.specs.Prelude.{◌+◌, ◌/◌, ◌%◌, ◌≤◌, ◌≡◌}
+use Rattle.std.proofs.Common.{◌∙◌}
+use Rattle.theorems.specs.Logic.{ℕ, zero, suc, List, Bool, true, false, Option, none, some, refl, sym, ap, arith, length, ltb, leb, eqb, sets, eqb-true, eqb-false, ltb-true, ltb-false, le-leb, le-ltb, lt-ltb}
 use Rattle.theorems.specs.Types.{Displacement, Relocatable, Moved, Entry, Loaded, Assembled, Book, Result, made, refused}
 use Rattle.values.specs.Tests.{pick}
 use Rattle.values.specs.Values.{moved_by}

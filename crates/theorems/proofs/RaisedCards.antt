@@ -1,5 +1,7 @@
 -- One card, over names and a counter raised by d: what it does to the counter, to the names, to the bases, and its pieces.
-use Rattle.theorems.specs.Logic.{ℕ, ◌+◌, ◌-◌, List, [], ◌∷◌, map, ◌≡◌, refl, sym, ap, ◌∙◌, arith}
+use Rattle.std.specs.Prelude.{◌+◌, ◌-◌, ◌∷◌, ◌≡◌}
+use Rattle.std.proofs.Common.{◌∙◌}
+use Rattle.theorems.specs.Logic.{ℕ, List, [], map, refl, sym, ap, arith}
 use Rattle.theorems.specs.Types.{Wanted, MaybeValue, Name, Operation, Role, DataCard, DataType, Data, Item, Address, Shape, Operands, Bases, Line, Addend, Read, Piece, plain}
 use Rattle.values.specs.declared.Value.TheVariants.{Absolute, Relocatable}
 use Rattle.values.specs.Values.{only_relocatable, with_relocatable}

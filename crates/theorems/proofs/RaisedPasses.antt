@@ -1,5 +1,7 @@
 -- Both passes from behind START, and from there raised by d: where both go through, pass one ends in its state raised, and pass two makes its records and its entry raised.
-use Rattle.theorems.specs.Logic.{Unit, tt, ℕ, ◌+◌, List, [], ◌∷◌, map, Bool, true, false, ◌≡◌, refl, sym, ap, ◌∙◌, eqb}
+use Rattle.std.specs.Prelude.{◌+◌, ◌∷◌, ◌≡◌}
+use Rattle.std.proofs.Common.{◌∙◌}
+use Rattle.theorems.specs.Logic.{Unit, tt, ℕ, List, [], map, Bool, true, false, refl, sym, ap, eqb}
 use Rattle.theorems.specs.Types.{Line, Reading, Role, Phase, MaybeValue, Name, Meaning, Entry, Course, Displacement, State, through, Piece, Record, clean}
 use Rattle.values.specs.Tests.{pick}
 use Rattle.names.specs.Names.{find}

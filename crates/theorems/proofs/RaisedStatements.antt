@@ -1,5 +1,6 @@
 -- A card's operands and bases raised by d: Q, lengths, registers, displacement bytes and jump bytes stay, its bases and its pieces are raised.
-use Rattle.theorems.specs.Logic.{ℕ, zero, suc, ◌+◌, ◌-◌, ◌%◌, ◌/◌, List, [], ◌∷◌, map, map-append, Bool, true, false, ◌≡◌, refl, sym, ap, arith, leb, eqb, le-leb, lt-leb, leb-true, leb-false, eqb-true}
+use Rattle.std.specs.Prelude.{◌+◌, ◌-◌, ◌%◌, ◌/◌, ◌∷◌, ◌≡◌}
+use Rattle.theorems.specs.Logic.{ℕ, zero, suc, List, [], map, map-append, Bool, true, false, refl, sym, ap, arith, leb, eqb, le-leb, lt-leb, leb-true, leb-false, eqb-true}
 use Rattle.theorems.specs.Types.{Value, MaybeValue, MaybeAbsolute, Evaluated, Operation, Use, Rule, EvaluatedItem, EvaluatedAddress, Operands, Base, Bases, Operand, Placed, Code, Statement, Piece, plain, value}
 use Rattle.values.specs.Tests.{pick, both}
 use Rattle.values.specs.declared.Wanted.TheVariants.{Any, OnlyAbsolute}

@@ -1,5 +1,7 @@
 -- Pieces and records raised by d: moving the listed fields of a text by d raises its pieces, and loading records by d comes to what loading those raised by d does.
-use Rattle.theorems.specs.Logic.{Unit, ℕ, ◌+◌, ◌%◌, ◌<◌, List, [], ◌∷◌, ◌++◌, map, append_assoc, false, true, ◌≡◌, refl, sym, ap, ◌∙◌, arith, add-zero, length, length-append, sets}
+use Rattle.std.specs.Prelude.{◌+◌, ◌%◌, ◌<◌, ◌∷◌, ◌++◌, ◌≡◌}
+use Rattle.std.proofs.Common.{◌∙◌}
+use Rattle.theorems.specs.Logic.{Unit, ℕ, List, [], map, append_assoc, false, true, refl, sym, ap, arith, add-zero, length, length-append, sets}
 use Rattle.theorems.specs.Types.{Displacement, Entry, Piece, plain, value, Record}
 use Rattle.values.specs.Words.{word, two_bytes}
 use Rattle.values.specs.declared.Value.TheVariants.{Absolute, Relocatable}

@@ -3,7 +3,9 @@
 -- Kinds, undefined names and their positions stay, and so do refusals 18 and 19, whatever becomes of the value: no premise says that either run is accepted.
 -- Where both runs have a value, an absolute one stays and a relocatable one is d higher.
 -- The form of an expression is no matter of names or counter: `expression_at` takes neither.
-use Rattle.theorems.specs.Logic.{ℕ, ◌+◌, ◌-◌, ◌*◌, ◌%◌, ◌≤◌, List, [], ◌∷◌, map, Bool, true, false, not, ◌≡◌, refl, sym, ap, ◌∙◌, fun_ext, add-zero, mul-zero, mul-one, mul-add, arith, ltb, eqb, ltb-false, eqb-true}
+use Rattle.std.specs.Prelude.{◌+◌, ◌-◌, ◌*◌, ◌%◌, ◌≤◌, ◌∷◌, ◌≡◌}
+use Rattle.std.proofs.Common.{◌∙◌}
+use Rattle.theorems.specs.Logic.{ℕ, List, [], map, Bool, true, false, not, refl, sym, ap, fun_ext, add-zero, mul-zero, mul-one, mul-add, arith, ltb, eqb, ltb-false, eqb-true}
 use Rattle.theorems.specs.Types.{Value, Term, Meaning, Factor, Kind, Name, Wanted, Evaluated, Product, Addend, Read}
 use Rattle.values.specs.Tests.{pick, either}
 use Rattle.names.specs.Raised.{raised_value, raised_meaning, raised_name}

@@ -1,7 +1,9 @@
 -- READABLE (R21.3). The book of an accepted source keeps the layout; reading its bytes gives its entry,
 -- its records and nothing else (R16.7);
 -- so loading it is never refused by 50.
-use Rattle.theorems.specs.Logic.{ℕ, suc, ◌+◌, ◌≤◌, ◌<◌, List, [], ◌∷◌, Bool, true, false, some, ◌≡◌, refl, ap, ◌∙◌, arith, length, get_or, take, drop, sets, sets-eq, take-append_seam, le-leb}
+use Rattle.std.specs.Prelude.{◌+◌, ◌≤◌, ◌<◌, ◌∷◌, ◌≡◌}
+use Rattle.std.proofs.Common.{◌∙◌}
+use Rattle.theorems.specs.Logic.{ℕ, suc, List, [], Bool, true, false, some, refl, ap, arith, length, get_or, take, drop, sets, sets-eq, take-append_seam, le-leb}
 use Rattle.theorems.specs.Types.{clean, Value, Displacement, Meaning, Entry, Operation, Shape, Reading, Role, Course, MaybeValue, DataCard, Data, Pattern, Record, Book, Piece, State, through, made}
 use Rattle.values.specs.Tests.{pick}
 use Rattle.values.specs.Values.{amount_of}

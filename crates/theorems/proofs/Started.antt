@@ -1,5 +1,7 @@
 -- Up to START: only comment cards stand before it, and it sets the counter and its name and makes nothing.
-use Rattle.theorems.specs.Logic.{Unit, tt, ℕ, ◌+◌, List, [], ◌∷◌, ◌++◌, ◌≡◌, refl, ap, ◌∙◌, arith, eqb}
+use Rattle.std.specs.Prelude.{◌+◌, ◌∷◌, ◌++◌, ◌≡◌}
+use Rattle.std.proofs.Common.{◌∙◌}
+use Rattle.theorems.specs.Logic.{Unit, tt, ℕ, List, [], refl, ap, arith, eqb}
 use Rattle.theorems.specs.Types.{Name, Meaning, Shape, Entry, Line, Reading, Role, Course, clean, State, through}
 use Rattle.values.specs.Tests.{pick}
 use Rattle.values.specs.declared.Value.TheVariants.{Relocatable}

@@ -1,6 +1,8 @@
 -- LOADED (R21.3, R17.2). Each byte of a record's moved text is in storage at its place plus the displacement,
 -- where no later record overlays it; every other place is as it was (`storage-other`).
-use Rattle.theorems.specs.Logic.{ℕ, ◌+◌, ◌≤◌, ◌<◌, List, [], ◌∷◌, ◌++◌, true, some, ◌≡◌, ap, ◌∙◌, arith, length, get_or}
+use Rattle.std.specs.Prelude.{◌+◌, ◌≤◌, ◌<◌, ◌∷◌, ◌++◌, ◌≡◌}
+use Rattle.std.proofs.Common.{◌∙◌}
+use Rattle.theorems.specs.Logic.{ℕ, List, [], true, some, ap, arith, length, get_or}
 use Rattle.theorems.specs.Types.{Displacement, Entry, Record, Book}
 use Rattle.book.specs.Book.{book_of}
 use Rattle.book.specs.Writing.{fair_all}

@@ -1,6 +1,8 @@
 -- SUMS (R21.3): no count is made up, each is a sum over cards or records.
 -- R15.2: the book's length and the count of names; R17.9: the bytes stored.
-use Rattle.theorems.specs.Logic.{ℕ, suc, ◌+◌, ◌<◌, List, [], ◌∷◌, Bool, true, false, some, ◌≡◌, refl, ap, ◌∙◌, arith, length, get_or, length-append, eqb}
+use Rattle.std.specs.Prelude.{◌+◌, ◌<◌, ◌∷◌, ◌≡◌}
+use Rattle.std.proofs.Common.{◌∙◌}
+use Rattle.theorems.specs.Logic.{ℕ, suc, List, [], Bool, true, false, some, refl, ap, arith, length, get_or, length-append, eqb}
 use Rattle.theorems.specs.Types.{Displacement, Name, Entry, Reading, Line, Course, Meaning, Record, Book, Piece, State, through, made}
 use Rattle.values.specs.Tests.{pick}
 use Rattle.names.specs.Names.{defined}

@@ -1,5 +1,7 @@
 -- How long a card's text is, that no value in it is over 65535, and that its fields lie inside it.
-use Rattle.theorems.specs.Logic.{tt, ℕ, zero, suc, ◌+◌, ◌-◌, ◌*◌, ◌/◌, ◌%◌, ◌≤◌, ◌<◌, List, [], ◌∷◌, ◌++◌, map, Bool, true, false, ◌≡◌, refl, sym, ap, ◌∙◌, arith, length, length-append, leb, eqb, eqb-true, eqb-false}
+use Rattle.std.specs.Prelude.{◌+◌, ◌-◌, ◌*◌, ◌/◌, ◌%◌, ◌≤◌, ◌<◌, ◌∷◌, ◌++◌, ◌≡◌}
+use Rattle.std.proofs.Common.{◌∙◌}
+use Rattle.theorems.specs.Logic.{tt, ℕ, zero, suc, List, [], map, Bool, true, false, refl, sym, ap, arith, length, length-append, leb, eqb, eqb-true, eqb-false}
 use Rattle.theorems.specs.Types.{Value, Wanted, Meaning, Evaluated, Operation, Use, Pattern, DataType, DataCard, Data, Item, Address, Shape, Operands, Base, Bases, Operand, Placed, Code, Course, Piece, plain, value, State}
 use Rattle.values.specs.Tests.{pick, both}
 use Rattle.values.specs.Values.{amount_of}

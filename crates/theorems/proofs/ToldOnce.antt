@@ -1,6 +1,8 @@
 -- TOLD ONCE (R21.1, R21.2). The contracts settle the whole reply and every lent byte:
 -- two replies that meet a public contract are the same. And packing is one to one: two different answers are never packed to the same number.
-use Rattle.theorems.specs.Logic.{Unit, tt, ℕ, ◌+◌, ◌*◌, ◌^◌, ◌≤◌, ◌<◌, List, [], ◌∷◌, Bool, true, false, ◌≡◌, refl, sym, ap, ◌∙◌, arith, leb-true}
+use Rattle.std.specs.Prelude.{◌+◌, ◌*◌, ◌^◌, ◌≤◌, ◌<◌, ◌∷◌, ◌≡◌}
+use Rattle.std.proofs.Common.{◌∙◌}
+use Rattle.theorems.specs.Logic.{Unit, tt, ℕ, List, [], Bool, true, false, refl, sym, ap, arith, leb-true}
 use Rattle.theorems.specs.Types.{Displacement, Entry, Loaded, Assembled, Record}
 use Rattle.values.specs.Tests.{pick}
 use Rattle.book.specs.Writing.{entry_fits, fair_all}

@@ -15,7 +15,9 @@ use Rattle.load.proofs.Laws.{none-fails, inside_is, stored_ways}
 use Rattle.print.specs.Print.{header_line, record_lines, refused50, refused57, lines_of, printed, where_room}
 use Rattle.print.proofs.Laws.{header_length, no_room}
 use Rattle.book.proofs.Written.{fair-first, read-fair}
-use Rattle.theorems.specs.Logic.{ℕ, zero, suc, ◌+◌, ◌≤◌, ◌<◌, List, [], ◌∷◌, ◌≡◌, refl, ap, ◌∙◌, ◌⊎◌, inl, inr, arith, length, get_or, drop, set, length-set, sets, get_or-set_same, get_or-set_other, drop-set-lt, ◌++◌, List-as-Memᴰ, List·Memᴰ·head, List·Memᴰ·tail, Bool, true, false, none, some, replicate, length-append, length-drop, length-replicate, get_or-replicate, List·getD-append, leb, le-ltb, lt-ltb, leb-true, length-sets, drop_at}
+use Rattle.std.specs.Prelude.{◌+◌, ◌≤◌, ◌<◌, ◌∷◌, ◌≡◌, ◌⊎◌, ◌++◌}
+use Rattle.std.proofs.Common.{◌∙◌}
+use Rattle.theorems.specs.Logic.{ℕ, zero, suc, List, [], refl, ap, inl, inr, arith, length, get_or, drop, set, length-set, sets, get_or-set_same, get_or-set_other, drop-set-lt, List-as-Memᴰ, List·Memᴰ·head, List·Memᴰ·tail, Bool, true, false, none, some, replicate, length-append, length-drop, length-replicate, get_or-replicate, List·getD-append, leb, le-ltb, lt-ltb, leb-true, length-sets, drop_at}
 use Rattle.theorems.specs.Types.{Displacement, Entry, Assembled, Loaded, Record, Book}
 use Rattle.theorems.proofs.Numbers.{cards-number, cards_range}
 use Rattle.theorems.proofs.Outcomes.{Way, way, made-way, out-after, work-after, Load, load, storage-after}

@@ -1,5 +1,6 @@
 -- What each pass says of each card, and the first card that it refuses.
-use Rattle.theorems.specs.Logic.{ℕ, ◌+◌, ◌<◌, List, [], ◌≡◌, length, get_or}
+use Rattle.std.specs.Prelude.{◌+◌, ◌<◌, ◌≡◌}
+use Rattle.theorems.specs.Logic.{ℕ, List, [], length, get_or}
 use Rattle.theorems.specs.Types.{Meaning, Course, State}
 use Rattle.passes.specs.One.{fresh, one_no}
 use Rattle.passes.specs.Two.{two_no}

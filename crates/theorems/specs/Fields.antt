@@ -1,5 +1,6 @@
 -- The card and the record that belong together, and where a relocatable value starts in a text.
-use Rattle.theorems.specs.Logic.{ℕ, suc, ◌+◌, ◌≤◌, ◌<◌, List, [], ◌∷◌, ◌++◌, List-as-Memᴰ, ◌≡◌, ◌⊎◌, length, get_or}
+use Rattle.std.specs.Prelude.{◌+◌, ◌≤◌, ◌<◌, ◌∷◌, ◌++◌, ◌≡◌, ◌⊎◌}
+use Rattle.theorems.specs.Logic.{ℕ, suc, List, [], List-as-Memᴰ, length, get_or}
 use Rattle.theorems.specs.Types.{Relocatable, Value, Record, Piece, value}
 use Rattle.encode.specs.Pieces.{text_of}
 use Rattle.passes.specs.Two.{outset, card_pieces, record_of_pieces}

@@ -1,5 +1,6 @@
 -- How far each pass has got, and what names that only grow keep.
-use Rattle.theorems.specs.Logic.{ℕ, zero, suc, List, [], ◌∷◌, ◌≡◌}
+use Rattle.std.specs.Prelude.{◌∷◌, ◌≡◌}
+use Rattle.theorems.specs.Logic.{ℕ, zero, suc, List, []}
 use Rattle.theorems.specs.Types.{Value, Name, Meaning, Reading, Course, State, Passed, through, stopped}
 use Rattle.names.specs.declared.Meaning.TheVariants.{Known}
 use Rattle.names.specs.Names.{find}

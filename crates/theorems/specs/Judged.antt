@@ -1,5 +1,6 @@
 -- R17.4 to R17.8: how the records of a book are judged before a load: 51 and 52 by the first record that fails, 52 with card 0 for the entry.
-use Rattle.theorems.specs.Logic.{ℕ, ◌+◌, List, ◌∷◌, ◌++◌, List-as-Memᴰ, Bool, true, false, ◌≡◌, ltb}
+use Rattle.std.specs.Prelude.{◌+◌, ◌∷◌, ◌++◌, ◌≡◌}
+use Rattle.theorems.specs.Logic.{ℕ, List, List-as-Memᴰ, Bool, true, false, ltb}
 use Rattle.theorems.specs.Types.{Entry, Record}
 use Rattle.book.specs.declared.Entry.TheVariants.{Absent, At}
 

@@ -1,5 +1,6 @@
 -- Demand 3: what it asks of two decks, and a book moved by d.
-use Rattle.theorems.specs.Logic.{ℕ, ◌+◌, List, ◌∷◌, ◌++◌, map, ◌≡◌}
+use Rattle.std.specs.Prelude.{◌+◌, ◌∷◌, ◌++◌, ◌≡◌}
+use Rattle.theorems.specs.Logic.{ℕ, List, map}
 use Rattle.theorems.specs.Types.{Entry, Line, Displacement, value, Record, Book}
 use Rattle.book.specs.declared.Entry.TheVariants.{Absent, At}
 use Rattle.fields.specs.Fields.{moved_text}

@@ -1,5 +1,6 @@
 -- Operands, bases, pieces and the states of both passes raised by d: everything relocatable is d higher, all else stays.
-use Rattle.theorems.specs.Logic.{ℕ, ◌+◌, map}
+use Rattle.std.specs.Prelude.{◌+◌}
+use Rattle.theorems.specs.Logic.{ℕ, map}
 use Rattle.theorems.specs.Types.{MaybeValue, Evaluated, EvaluatedItem, EvaluatedAddress, Operands, Base, Bases, Operand, Placed, Course, Piece, plain, value, State}
 use Rattle.names.specs.Raised.{raised_value, raised_name}
 use Rattle.expressions.specs.declared.Evaluated.TheVariants.{Good, Malformed, Undefined, WrongKind, OutOfRange}

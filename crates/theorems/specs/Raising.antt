@@ -1,5 +1,6 @@
 -- Names and counter raised by d, and what of an expression is known before its value.
-use Rattle.theorems.specs.Logic.{ℕ, List, [], ◌∷◌, ◌++◌}
+use Rattle.std.specs.Prelude.{◌∷◌, ◌++◌}
+use Rattle.theorems.specs.Logic.{ℕ, List, []}
 use Rattle.theorems.specs.Types.{Meaning, Kind, Evaluated, Addend, Read}
 use Rattle.values.specs.Tests.{pick}
 use Rattle.names.specs.Raised.{raised_meaning}

@@ -1,5 +1,6 @@
 -- R21.3: sums over cards and over records, which the counts answered must be.
-use Rattle.theorems.specs.Logic.{ℕ, ◌+◌, List, [], ◌∷◌, length, eqb}
+use Rattle.std.specs.Prelude.{◌+◌, ◌∷◌}
+use Rattle.theorems.specs.Logic.{ℕ, List, [], length, eqb}
 use Rattle.theorems.specs.Types.{Reading, Record}
 use Rattle.values.specs.Tests.{pick}
 use Rattle.book.specs.Writing.{record_bytes}

@@ -1,5 +1,6 @@
 -- What it is to meet the contract of a public call: the whole reply, and every lent byte afterwards.
-use Rattle.theorems.specs.Logic.{ℕ, List, ◌≡◌, length}
+use Rattle.std.specs.Prelude.{◌≡◌}
+use Rattle.theorems.specs.Logic.{ℕ, List, length}
 use Rattle.load.specs.Load.{loading}
 use Rattle.passes.specs.Assembly.{assembling}
 use Rattle.print.specs.Print.{printed, where_room}
