@@ -63,12 +63,7 @@ fn pack_assembled(answer: Assembled) -> u64
 }
 
 // Assembles any source of cards of any width into any output, with any work area.
-pub fn mersclund_assemble(
-    width: u32,
-    source: &[u8],
-    work: &mut [u8],
-    out: &mut [u8],
-) -> u64
+pub fn mersclund_assemble(width: u32, source: &[u8], work: &mut [u8], out: &mut [u8]) -> u64
     ensures value { result ≡ packed_assembled (assembling width source.now work.old out.old).answer }
     ensures work_after { work.new ≡ (assembling width source.now work.old out.old).work }
     ensures out_after { out.new ≡ (assembling width source.now work.old out.old).out }
