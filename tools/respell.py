@@ -13,7 +13,6 @@ import sys
 
 WORD = re.compile(r"(?<![A-Za-z0-9_'′ℕ₀₁₂-])[A-Za-z][A-Za-z0-9_'′ℕ₀₁₂]*(?:-[A-Za-z0-9_'′ℕ₀₁₂]+)*")
 DECLARED = re.compile(r"^[ \t]*(?:(?:pattern|unfoldable|abbrev|axiom|pub|ruleset|data|record)[ \t]+)*([A-Za-z][A-Za-z0-9_'′ℕ₀₁₂-]*)(?:[ \t]*\{[^}\n]*\})*(?:[ \t]*\([^)\n]*\))*[ \t]*:(?![:=])", re.M)
-HUMP = re.compile(r"(?<=[a-z0-9])([A-Z])(?=[a-z0-9]|$)|(?<=[a-z0-9])([A-Z]+)(?=$|[-_])")
 IMPORTS = re.compile(r"use\s+([A-Za-z][\w.·'+-]*)\.\{([^}]*)\}")
 # Names that mirror a word of the library, which port.py gave another name.
 WORDS = {"get_d": "get_or"}
@@ -61,7 +60,6 @@ def main():
                 for a, b in names.items():
                     text[p] = re.sub(rf"(?<![\w.-]){a}(?![\w'-])", b, text[p])
     was = {p: read(p) for p in text}
-    own = [os.path.basename(os.path.dirname(p)) for p in rt]
     crates = {re.search(r"crates/([^/]+)/", p)[1] for p in antt + rt}
     declared, kit, used = collections.OrderedDict(), set(), collections.Counter()
     functions = set()

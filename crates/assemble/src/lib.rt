@@ -39,7 +39,7 @@ fn write(
 }
 
 // Pass two over the names that pass one has found: judging first, then writing.
-#[tactic(auto, unfolding(pass_two::specs::Code::bytes_in, cards::specs::Source::source_no, passes::specs::Sound::sound, cards::specs::Source::cards_of, names::specs::Names::ascending, names::specs::Table::names_in, pass_two::specs::Code::checked_in))]
+#[tactic(auto, unfolding(pass_two::specs::Code::bytes_in, cards::specs::Source::source_no))]
 fn finish(width: usize, source: &[u8], table: &[u8], count: usize, out: &mut [u8]) -> Assembled
     requires source_value { (source_no width (length source.now) ≡ 0) × (sound (cards_of width source.now) ≡ true) }
     requires count_in_bounds { (16 * count ≤ length table.now) × (ascending (names_in count table.now) ≡ true) × (count ≤ 512) }
@@ -53,7 +53,7 @@ fn finish(width: usize, source: &[u8], table: &[u8], count: usize, out: &mut [u8
 }
 
 // Both passes and the book; the first 8,192 bytes of the work area are left as they fall.
-#[tactic(auto, unfolding(pass_two::specs::Code::checked_in, cards::specs::Source::source_no, passes::specs::Assembly::assembled, cards::specs::Source::cards_of))]
+#[tactic(auto, unfolding(pass_two::specs::Code::checked_in, passes::specs::Assembly::assembled))]
 fn translate(width: usize, source: &[u8], work: &mut [u8], out: &mut [u8]) -> Assembled
     requires { (source_no width (length source.now) ≡ 0) × (8192 ≤ length work.old) }
     ensures value { result ≡ (outcome_of (assembled (cards_of width source.now)) work.old out.old).answer }

@@ -5,7 +5,6 @@ ghost use Rattle.data.specs.Runs.{digits_end, told, number_from};
 use letters::byte_at;
 
 // The position behind the digits of a base that stand from a position on.
-#[tactic(auto, unfolding(crate::specs::Runs::digits_end))]
 pub fn digits_end(s: &[u8], at: usize, base: u8) -> usize
     requires { base ≤ 16 }
     ensures { result ≡ digits_end base s.now at }

@@ -104,7 +104,6 @@ fn put_fill(m: &mut [u8], to: usize, n: usize, b: u8)
 }
 
 // Blanks on the right.
-#[tactic(auto, unfolding(crate::specs::Text::characters_text))]
 fn put_characters(o: &[u8], d: Data, m: &mut [u8], to: usize)
     requires { (d.count ≤ d.length) × (to + d.length ≤ length m.old) }
     ensures { m.new ≡ sets m.old to (characters_text o.now d) }
@@ -118,7 +117,6 @@ fn put_characters(o: &[u8], d: Data, m: &mut [u8], to: usize)
 }
 
 // Zeros on the left.
-#[tactic(auto, unfolding(crate::specs::Text::hexadecimal_text))]
 fn put_hexadecimal(o: &[u8], d: Data, m: &mut [u8], to: usize)
     requires { (half_up d.count ≤ d.length) × (to + d.length ≤ length m.old) × (d.value + d.count ≤ length o.now) }
     ensures { m.new ≡ sets m.old to (hexadecimal_text o.now d) }
@@ -133,7 +131,6 @@ fn put_hexadecimal(o: &[u8], d: Data, m: &mut [u8], to: usize)
 }
 
 // F0 on the left.
-#[tactic(auto, unfolding(crate::specs::Text::decimal_text))]
 fn put_decimal(o: &[u8], d: Data, m: &mut [u8], to: usize)
     requires { (d.count ≤ d.length) × (to + d.length ≤ length m.old) }
     ensures { m.new ≡ sets m.old to (decimal_text o.now d) }

@@ -16,7 +16,6 @@ pub enum Extent {
 }
 
 // Characters from a position on, and the closing apostrophe.
-#[tactic(auto, unfolding(crate::specs::Form::characters_at))]
 fn count_characters(s: &[u8], at: usize) -> Extent
     ensures { result ≡ characters_at s.now at }
 {

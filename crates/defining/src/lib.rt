@@ -88,7 +88,6 @@ fn name_length(role: Role, op: Operation, x: Shape) -> usize
 }
 
 // A line's name goes into the table, where it has one; how many names there are then.
-#[tactic(auto, unfolding(names::specs::Names::ascending, names::specs::Table::names_in))]
 pub fn enter(
     role: Role,
     v: MaybeValue,

@@ -103,7 +103,6 @@ fn constant_count(copies: u32, size: u32, v: Value) -> usize
 }
 
 // How many relocatable fields a statement has.
-#[tactic(auto, unfolding(crate::specs::Pieces::pieces_of))]
 pub fn field_count(st: Statement) -> usize
     ensures { result ≡ length (fields_of (pieces_of st)) }
 {
@@ -251,7 +250,6 @@ fn put_two_fields(a: Operand, b: Operand, m: &mut [u8], to: usize)
 }
 
 // Every copy of an address constant that is a field.
-#[tactic(auto, unfolding(crate::specs::Pieces::copied, crate::specs::Pieces::address_pieces))]
 fn put_address_fields(copies: u32, size: u32, v: Value, m: &mut [u8], to: usize)
     requires { (to + constant_count copies size v ≤ length m.old) × (2 * constant_count copies size v ≤ 256) }
     ensures { m.new ≡ sets m.old to (fields_of (copied copies (address_pieces size v))) }

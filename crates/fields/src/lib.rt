@@ -13,8 +13,8 @@ use values::{Displacement, Moved, Relocatable};
 
 // The offset of a listed field, by its place in the list.
 pub fn offset_at(book: &[u8], p: Place, i: usize) -> usize
-    requires fact_1 { Sound book.now p }
-    requires fact_2 { i < p.count }
+    requires sound { Sound book.now p }
+    requires listed { i < p.count }
     ensures { (result ≡ get_or (record_there book.now p).fields i 0) × (result + 2 ≤ p.size) }
 {
     let at = p.fields + i;
@@ -23,8 +23,8 @@ pub fn offset_at(book: &[u8], p: Place, i: usize) -> usize
 
 // The field at an offset of the text, moved.
 pub fn moved_field(book: &[u8], p: Place, offset: usize, d: Displacement) -> Moved
-    requires fact_1 { Sound book.now p }
-    requires fact_2 { offset + 2 ≤ p.size }
+    requires sound { Sound book.now p }
+    requires inside { offset + 2 ≤ p.size }
     ensures { result ≡ moved_by d (field_in (record_there book.now p).text offset) }
 {
     Relocatable(word_at(book, p.text + offset)).plus(d)
@@ -52,9 +52,9 @@ pub fn over_field(book: &[u8], p: Place, d: Displacement) -> bool
 
 // The record's text, its listed fields moved, laid over m from `to` on.
 pub fn put_moved(book: &[u8], p: Place, d: Displacement, m: &mut [u8], to: usize)
-    requires fact_1 { Sound book.now p }
-    requires fact_2 { over_field d (record_there book.now p) ≡ false }
-    requires fact_3 { to + p.size ≤ length m.old }
+    requires sound { Sound book.now p }
+    requires none_over { over_field d (record_there book.now p) ≡ false }
+    requires room { to + p.size ≤ length m.old }
     ensures { m.new ≡ sets m.old to (moved_text d (record_there book.now p)) }
 {
     let text = p.text;

@@ -90,8 +90,8 @@ fn first_failing(test: Test, book: &[u8], d: Displacement) -> u16
 // Every record in order, its fields moved; how many bytes that is.
 fn store_all(book: &[u8], d: Displacement, m: &mut [u8]) -> usize
     requires kept { Kept book.now }
-    requires book_value { first_card (outside d (room_in m.old)) (records_in book.now) ≡ 0 }
-    requires book_value_2 { first_card (over_field d) (records_in book.now) ≡ 0 }
+    requires none_outside { first_card (outside d (room_in m.old)) (records_in book.now) ≡ 0 }
+    requires none_over { first_card (over_field d) (records_in book.now) ≡ 0 }
     ensures value { (result ≡ bytes_stored (records_in book.now)) × (result ≤ 1024000) }
     ensures m_after { m.new ≡ stored_all d (records_in book.now) m.old }
 {
@@ -119,7 +119,7 @@ fn store_all(book: &[u8], d: Displacement, m: &mut [u8]) -> usize
 }
 
 // A book that keeps its layout, with its entry.
-#[tactic(auto, unfolding(book::specs::Reading::layout_of, crate::specs::Load::judged, book::specs::Reading::records_in))]
+#[tactic(auto, unfolding(crate::specs::Load::judged))]
 fn load_whole(book: &[u8], entry: Entry, d: Displacement, storage: &mut [u8]) -> Loaded
     requires { Layout.Whole entry ≡ layout_of book.now }
     ensures value { result ≡ (judged entry d (records_in book.now) storage.old).answer }

@@ -135,7 +135,6 @@ pub fn entry_in(a: Sought) -> Entry
     }
 }
 
-#[tactic(auto, unfolding(lines::specs::Lines::reading_of, names::specs::Names::ascending, names::specs::Table::names_in, names::specs::Names::find))]
 fn make_line(c: Course, l: Line, card: &[u8], table: &[u8], count: usize) -> Made
     requires card_value { (reading_of card.now ≡ Stated l) × (c.counter + size_of l.operation l.shape < 2 ^ 32) }
     requires count_in_bounds { (16 * count ≤ length table.now) × (ascending (names_in count table.now) ≡ true) }
@@ -176,7 +175,7 @@ fn make_none(c: Course) -> Made
 }
 
 // What a card makes, over the names of a table.
-#[tactic(auto, unfolding(crate::specs::Steps::card_made, lines::specs::Lines::reading_of, names::specs::Names::ascending, names::specs::Table::names_in, names::specs::Names::find))]
+#[tactic(auto, unfolding(crate::specs::Steps::card_made))]
 pub fn make_card(c: Course, card: &[u8], table: &[u8], count: usize) -> Made
     requires card_value { (sound_reading (reading_of card.now) ≡ true) × (c.counter + 65536 < 2 ^ 32) }
     requires count_in_bounds { (16 * count ≤ length table.now) × (ascending (names_in count table.now) ≡ true) }

@@ -44,7 +44,6 @@ fn put_text_fields(t: Text, m: &mut [u8], to: usize)
     }
 }
 
-#[tactic(auto, unfolding(encode::specs::Pieces::text_of))]
 fn put_text_bytes(t: Text, o: &[u8], m: &mut [u8], to: usize)
     requires text_fits { TextFits t o.now }
     requires t_in_bounds { to + text_length t ≤ length m.old }
@@ -57,7 +56,6 @@ fn put_text_bytes(t: Text, o: &[u8], m: &mut [u8], to: usize)
 }
 
 // The record of a text that has a byte.
-#[tactic(auto, unfolding(book::specs::Writing::record_bytes))]
 fn put_record(t: Text, o: &[u8], card: u16, address: u32, m: &mut [u8], to: usize)
     requires text_fits { TextFits t o.now }
     requires t_in_bounds { to + (record_head + length (text_fields t) + text_length t) ≤ length m.old }

@@ -140,7 +140,6 @@ fn find_row(rows: &[[u8; 5]], key: u64) -> usize
     rows.len()
 }
 
-#[tactic(auto, unfolding(crate::specs::Sorted::sorted_letters, crate::specs::Sorted::sorted, crate::specs::Sorted::inserted, crate::specs::Model10::model10, crate::specs::Model10::own_operations, crate::specs::Model10::two_addresses, crate::specs::Model10::one_addresses, crate::specs::Model10::branches, crate::specs::Model10::jumps, crate::specs::Model10::extended_moves, crate::specs::Model10::extended_branches, crate::specs::Model10::extended_jumps, crate::specs::Rows::letters_of, crate::specs::Rows::number5))]
 fn row_of(key: u64) -> usize
     ensures { result ≡ row_in sorted_letters key }
 {
@@ -148,7 +147,6 @@ fn row_of(key: u64) -> usize
     find_row(&rows, key)
 }
 
-#[tactic(auto, unfolding(crate::specs::Sorted::sorted_operations, crate::specs::Sorted::sorted, crate::specs::Sorted::inserted, crate::specs::Model10::model10, crate::specs::Model10::own_operations, crate::specs::Model10::two_addresses, crate::specs::Model10::one_addresses, crate::specs::Model10::branches, crate::specs::Model10::jumps, crate::specs::Model10::extended_moves, crate::specs::Model10::extended_branches, crate::specs::Model10::extended_jumps, crate::specs::Rows::letters_of, crate::specs::Rows::number5))]
 fn operation_in(row: usize) -> Operation
     ensures { result ≡ get_or sorted_operations row Unknown }
 {

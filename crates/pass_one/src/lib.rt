@@ -79,7 +79,6 @@ fn early_line(l: Line, card: &[u8], table: &[u8], count: usize, counter: u32) ->
 }
 
 // What it looks at of a card that was read, over the names of earlier cards.
-#[tactic(auto, unfolding(lines::specs::Lines::reading_of, names::specs::Names::ascending, names::specs::Table::names_in, names::specs::Names::find))]
 fn early_in(reading: Reading, card: &[u8], table: &[u8], count: usize, counter: u32) -> Early
     requires card_value { reading_of card.now ≡ reading }
     requires count_in_bounds { (16 * count ≤ length table.now) × (ascending (names_in count table.now) ≡ true) }
@@ -137,7 +136,6 @@ fn reading_no(p: Pass, reading: Reading, e: Early, table: &[u8]) -> u8
 }
 
 // The refusal of a card, or 0: 9 before all else, then 10 over all its columns.
-#[tactic(auto, unfolding(passes::specs::One::one_no, lines::specs::Lines::reading_of, names::specs::Names::find, names::specs::Table::names_in))]
 fn one_no(p: Pass, card: &[u8], reading: Reading, e: Early, table: &[u8]) -> u8
     requires in_bounds { (8192 ≤ length table.now) × Fit p table.now }
     requires card_value { (reading_of card.now ≡ reading) × (e ≡ early_in (find (names_in p.count table.now)) p.counter card.now reading) }
@@ -161,7 +159,6 @@ fn phase_after(role: Role, p: Phase) -> Phase
 }
 
 // Behind a line that is let through.
-#[tactic(auto, unfolding(crate::specs::Code::line_by))]
 fn line_step(p: Pass, l: Line, e: Early, table: &mut [u8]) -> Pass
     requires in_bounds { (8192 ≤ length table.old) × Fit p table.old }
     requires e_value { (line_by (stands_for p table.old) l e ≡ 0) × (l.name < 2 ^ 48) }
@@ -198,7 +195,7 @@ fn step_one(p: Pass, reading: Reading, e: Early, table: &mut [u8]) -> Pass
 }
 
 // Over all cards of a source, with the table of names in the first 8,192 bytes of a lent area.
-#[tactic(auto, unfolding(cards::specs::Source::source_no, passes::specs::One::pass_one, cards::specs::Source::cards_of))]
+#[tactic(auto, unfolding(passes::specs::One::pass_one, cards::specs::Source::source_no))]
 pub fn run_one(width: usize, source: &[u8], table: &mut [u8]) -> PassedOne
     requires { (source_no width (length source.now) ≡ 0) × (8192 ≤ length table.old) }
     ensures table_after { passed_as result table.new ≡ pass_one 1 fresh (cards_of width source.now) }

@@ -40,7 +40,7 @@ fn first_course() -> Course
 }
 
 // Over all cards of a source, with the names of a table. Where it is told to write, no card may be refused, and the book is laid over the start of the output.
-#[tactic(auto, unfolding(crate::specs::Code::checked_in, crate::specs::Code::bytes_in, cards::specs::Source::source_no, passes::specs::Sound::sound, cards::specs::Source::cards_of, names::specs::Names::ascending, names::specs::Table::names_in))]
+#[tactic(auto, unfolding(crate::specs::Code::checked_in, crate::specs::Code::bytes_in, cards::specs::Source::source_no, cards::specs::Source::cards_of))]
 pub fn run_two(
     width: usize,
     source: &[u8],

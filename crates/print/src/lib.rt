@@ -77,8 +77,8 @@ fn put_header_line(m: &mut [u8], book: &[u8]) -> usize
 // The offsets, or - where there are none, and a blank.
 #[tactic(auto, unfolding(crate::specs::Print::offsets))]
 fn put_offsets(m: &mut [u8], to: usize, book: &[u8], p: Place) -> usize
-    requires fact_1 { Sound book.now p }
-    requires fact_2 { to + offsets_length p.count ≤ length m.old }
+    requires sound { Sound book.now p }
+    requires room { to + offsets_length p.count ≤ length m.old }
     ensures value { result ≡ to + offsets_length p.count }
     ensures m_after { m.new ≡ sets m.old to (offsets (record_there book.now p).fields) }
 {
@@ -109,8 +109,8 @@ fn put_head_columns(m: &mut [u8], to: usize, p: Place) -> usize
 // The text, and the end of the line.
 #[tactic(auto, unfolding(crate::specs::Print::column))]
 fn put_text(m: &mut [u8], to: usize, book: &[u8], p: Place) -> usize
-    requires fact_1 { Sound book.now p }
-    requires fact_2 { to + (2 * p.size + 1) ≤ length m.old }
+    requires sound { Sound book.now p }
+    requires room { to + (2 * p.size + 1) ≤ length m.old }
     ensures value { result ≡ to + (2 * p.size + 1) }
     ensures m_after { m.new ≡ sets m.old to (column (record_there book.now p).text 10) }
 {
@@ -121,8 +121,8 @@ fn put_text(m: &mut [u8], to: usize, book: &[u8], p: Place) -> usize
 
 // The line of a record.
 fn put_record(m: &mut [u8], to: usize, book: &[u8], p: Place) -> usize
-    requires fact_1 { Sound book.now p }
-    requires fact_2 { to + line_length p.count p.size ≤ length m.old }
+    requires sound { Sound book.now p }
+    requires room { to + line_length p.count p.size ≤ length m.old }
     ensures value { result ≡ to + line_length p.count p.size }
     ensures m_after { m.new ≡ sets m.old to (record_line (record_there book.now p)) }
 {

@@ -9,5 +9,5 @@ pub returns : goal.returns
 returns c =
     let a = c.args in
     let e : c.wide.result ≡ get_or (record_there a.book.now a.p).fields a.i 0 = c.wide.ensures.0 ∙ sym (get_or_part a.book.now a.p.fields a.p.count a.i (omega arith)) in
-    let inside = offset_inside a.book.now a.p c.requires.fact_1 a.i (omega arith) in
+    let inside = offset_inside a.book.now a.p c.requires.sound a.i (omega arith) in
     (e, omega arith)

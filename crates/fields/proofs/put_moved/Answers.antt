@@ -11,12 +11,12 @@ use Rattle.fields.proofs.put_moved.Goals as goal
 pub loop-i-init : goal.loop-i-init
 loop-i-init c =
     let a = c.args in
-    let n = text-length a.book.now a.p c.requires.fact_1 in
+    let n = text-length a.book.now a.p c.requires.sound in
     let laid = c.put_bytes.ensures ∙ ap (λ t. sets a.m.now a.to t) (part_between a.book.now a.p.text a.p.size) in
     record {
       inside = omega arith;
       same_length = refl;
-      none_over = c.requires.fact_2;
+      none_over = c.requires.none_over;
       moving = moving_start a.m.now a.to a.d (record_there a.book.now a.p) (omega arith) _ laid;
     }
 
@@ -24,7 +24,7 @@ pub returns-in-Over : goal.returns-in-Over
 returns-in-Over c =
     let a = c.args in
     let text = (record_there a.book.now a.p).text in
-    let left = fields_left a.book.now a.p c.requires.fact_1 c.loop-i.i _ (omega arith) c.offset_at-offset.ensures.0 in
+    let left = fields_left a.book.now a.p c.requires.sound c.loop-i.i _ (omega arith) c.offset_at-offset.ensures.0 in
     let over = sym c.loop-i.invariant.none_over ∙ ap (λ os. over_in a.d text os) left ∙ over-here a.d text _ _ c.in-Over.ensures in
     clash (cc over)
 
@@ -33,8 +33,8 @@ loop-i-preserved c =
     let a = c.args in
     let l = c.loop-i in
     let r = record_there a.book.now a.p in
-    let n = text-length a.book.now a.p c.requires.fact_1 in
-    let left = fields_left a.book.now a.p c.requires.fact_1 l.i _ (omega arith) c.offset_at-offset.ensures.0 in
+    let n = text-length a.book.now a.p c.requires.sound in
+    let left = fields_left a.book.now a.p c.requires.sound l.i _ (omega arith) c.offset_at-offset.ensures.0 in
     let fits = c.offset_at-offset.ensures.1 in
     let kept : length c.put_word.new.m ≡ length l.m = c.put_word.auto.m in
     record {
@@ -50,8 +50,8 @@ returns c =
     let a = c.args in
     let l = c.loop-i in
     let r = record_there a.book.now a.p in
-    let n = text-length a.book.now a.p c.requires.fact_1 in
-    let none = fields_done a.book.now a.p c.requires.fact_1 l.i (omega arith) in
+    let n = text-length a.book.now a.p c.requires.sound in
+    let none = fields_done a.book.now a.p c.requires.sound l.i (omega arith) in
     let laid = c.put_bytes.ensures ∙ ap (λ t. sets a.m.now a.to t) (part_between a.book.now a.p.text a.p.size) in
     moving_end a.m.now a.to a.d r (omega arith) _ l.m laid
     (subst (λ (os : List ℕ). Moving c.put_bytes.new.m a.to a.d r os l.m) none l.invariant.moving)

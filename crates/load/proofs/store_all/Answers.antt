@@ -34,7 +34,7 @@ loop-p-init c =
       same_length = refl;
       few = omega arith;
       card = omega arith;
-      left = start _ e q _ (record { storage = refl; bytes = omega arith; inside = c.requires.book_value; under = c.requires.book_value_2 });
+      left = start _ e q _ (record { storage = refl; bytes = omega arith; inside = c.requires.none_outside; under = c.requires.none_over });
     })
 
 pub returns-in-Over : goal.returns-in-Over
@@ -48,7 +48,7 @@ put_moved-requires c =
     let (low, ends, under) = fits _ _ _ _ _ _ _ _ _ c.loop-p.invariant.left _ _ c.in-Record.ensures in
     let to = c.wide16.ensures.0 ∙ (moved_to _ _ _ c.in-To.ensures).0 in
     let same = c.loop-p.invariant.same_length in
-    record { fact_1 = (gave _ _ _ _ _ c.in-Record.ensures).sound; fact_2 = under; fact_3 = omega arith }
+    record { sound = (gave _ _ _ _ _ c.in-Record.ensures).sound; none_over = under; room = omega arith }
 
 pub overflow_add-count : goal.overflow_add-count
 overflow_add-count c =

@@ -12,7 +12,7 @@ pub returns-clause-m_after : goal.returns-clause-m_after
 returns-clause-m_after c =
     let a = c.args in
     let p = a.p in
-    let ok = c.requires.fact_1 in
+    let ok = c.requires.sound in
     let r = record_there a.book.now p in
     let f = fields-length a.book.now p ok in
     let h = c.put_head_columns-offsets in

@@ -28,7 +28,7 @@ put_record-at-requires c =
     let k = length-append (record_line r) (record_lines rest) in
     let f = ap length (lines_first r rest) in
     let same = l.invariant.same_length in
-    record { fact_1 = ok; fact_2 = omega arith }
+    record { sound = ok; room = omega arith }
 
 pub loop-p-smaller : goal.loop-p-smaller
 loop-p-smaller c = let g = gave _ _ _ _ _ c.in-Record.ensures in omega (arith, g.on, g.within)
