@@ -1,29 +1,35 @@
 // An address at a position of an operand: an expression, and the items in parentheses behind it, from the columns alone.
 #![tactic(auto)]
 
-ghost use Rattle.std.specs.Prelude.{◌≡◌};
-ghost use Rattle.addresses.specs.Address.{closed, register_at, behind_length, length_at, or_register, items_at, plain, behind_address, address_at};
+ghost use Rattle.std.specs.Prelude.{None, ◌≡◌};
+ghost use Rattle.addresses.specs.Address.{address, closed, register_at, length_at, items_at, plain, address_at};
 
-use expressions::form::{Form, expression_form};
+use expressions::form::{behind_byte, expression_form};
 use letters::byte_at;
 
-// An item in parentheses: where its expression starts, if it is written.
-#[derive(Clone, Copy)]
-pub enum Item {
-    Absent,
-    At(usize),
-}
-
 // An address, E, E(L), E(L,R), E(,R) or E(R): where each expression starts.
-#[derive(Clone, Copy)]
+#[derive(Clone, Copy, Debug, PartialEq, Eq)]
 pub struct Address {
     pub at: usize,
-    pub length: Item,
-    pub register: Item,
+    pub length: Option<usize>,
+    pub register: Option<usize>,
+}
+
+impl Address {
+    // E alone.
+    fn alone(at: usize) -> Address
+        ensures { result ≡ address at None None }
+    {
+        Address {
+            at,
+            length: None,
+            register: None,
+        }
+    }
 }
 
 // What may be written in parentheses behind E.
-#[derive(Clone, Copy)]
+#[derive(Clone, Copy, Debug, PartialEq, Eq)]
 pub enum Allowed {
     // E(L), E(L,R), E(,R), E
     MayHaveLength,
@@ -35,130 +41,86 @@ pub enum Allowed {
     OnlyRegister,
 }
 
-// An address that was read and the position behind it; or the first position at which it could not go on.
-#[derive(Clone, Copy)]
-pub enum Addressed {
-    Reads(Address, usize),
-    Stops(usize),
-}
-
 #[tactic(auto, unfolding(crate::specs::Address::closed))]
-fn closed(s: &[u8], q: usize, a: Address) -> Addressed
+fn closed(s: &[u8], q: usize, a: Address) -> Result<(Address, usize), usize>
     ensures { result ≡ closed s.now q a }
 {
-    if byte_at(s, q) == b')' {
-        Addressed::Reads(a, q + 1)
-    } else {
-        Addressed::Stops(q)
-    }
+    Ok((a, behind_byte(s, q, b')')?))
 }
 
 #[tactic(auto, unfolding(crate::specs::Address::register_at))]
-fn register_at(s: &[u8], at: usize, l: Item, p: usize) -> Addressed
-    ensures { result ≡ register_at s.now at l p }
+fn register_at(
+    s: &[u8],
+    at: usize,
+    length: Option<usize>,
+    p: usize,
+) -> Result<(Address, usize), usize>
+    ensures { result ≡ register_at s.now at length p }
 {
-    match expression_form(s, p) {
-        Form::Fails(place) => Addressed::Stops(place),
-        Form::Ends(q) => closed(
-            s,
-            q,
-            Address {
-                at: at,
-                length: l,
-                register: Item::At(p),
-            },
-        ),
-    }
-}
-
-#[tactic(auto, unfolding(crate::specs::Address::behind_length))]
-fn behind_length(s: &[u8], at: usize, p: usize, q: usize) -> Addressed
-    ensures { result ≡ behind_length s.now at p q }
-{
-    if byte_at(s, q) == b',' {
-        return register_at(s, at, Item::At(p), q + 1);
-    }
-    let item = Item::At(p);
-    let none = Item::Absent;
+    let behind = expression_form(s, p)?;
+    let register = Some(p);
     closed(
         s,
-        q,
+        behind,
         Address {
-            at: at,
-            length: item,
-            register: none,
+            at,
+            length,
+            register,
         },
     )
 }
 
-#[tactic(auto, unfolding(crate::specs::Address::length_at))]
-fn length_at(s: &[u8], at: usize, p: usize) -> Addressed
+#[tactic(auto, unfolding(crate::specs::Address::length_at, crate::specs::Address::behind_length))]
+fn length_at(s: &[u8], at: usize, p: usize) -> Result<(Address, usize), usize>
     ensures { result ≡ length_at s.now at p }
 {
-    match expression_form(s, p) {
-        Form::Fails(q) => Addressed::Stops(q),
-        Form::Ends(q) => behind_length(s, at, p, q),
-    }
-}
-
-// `,R)`, or else what may stand instead.
-#[tactic(auto, unfolding(crate::specs::Address::or_register))]
-fn or_register(s: &[u8], at: usize, p: usize, other: Addressed) -> Addressed
-    ensures { result ≡ or_register s.now at p other }
-{
-    if byte_at(s, p) == b',' {
-        register_at(s, at, Item::Absent, p + 1)
+    let q = expression_form(s, p)?;
+    if byte_at(s, q) == b',' {
+        register_at(s, at, Some(p), q + 1)
     } else {
-        other
+        closed(
+            s,
+            q,
+            Address {
+                length: Some(p),
+                ..Address::alone(at)
+            },
+        )
     }
 }
 
 // What stands behind the opening parenthesis.
-fn items_at(s: &[u8], at: usize, p: usize, w: Allowed) -> Addressed
+#[tactic(auto, unfolding(crate::specs::Address::or_register))]
+fn items_at(s: &[u8], at: usize, p: usize, w: Allowed) -> Result<(Address, usize), usize>
     ensures { result ≡ items_at w s.now at p }
 {
     match w {
-        Allowed::MayHaveLength => or_register(s, at, p, length_at(s, at, p)),
         Allowed::HasLength => length_at(s, at, p),
-        Allowed::NoLength => or_register(s, at, p, Addressed::Stops(p)),
-        Allowed::OnlyRegister => or_register(s, at, p, register_at(s, at, Item::Absent, p)),
+        _ if byte_at(s, p) == b',' => register_at(s, at, None, p + 1),
+        Allowed::MayHaveLength => length_at(s, at, p),
+        Allowed::NoLength => Err(p),
+        Allowed::OnlyRegister => register_at(s, at, None, p),
     }
 }
 
 // E alone, which ends at q.
-fn plain(at: usize, q: usize, w: Allowed) -> Addressed
+fn plain(at: usize, q: usize, w: Allowed) -> Result<(Address, usize), usize>
     ensures { result ≡ plain w at q }
 {
-    let a = Address {
-        at: at,
-        length: Item::Absent,
-        register: Item::Absent,
-    };
     match w {
-        Allowed::MayHaveLength => Addressed::Reads(a, q),
-        Allowed::HasLength => Addressed::Stops(q),
-        Allowed::NoLength => Addressed::Reads(a, q),
-        Allowed::OnlyRegister => Addressed::Reads(a, q),
+        Allowed::HasLength => Err(q),
+        _ => Ok((Address::alone(at), q)),
     }
 }
 
-#[tactic(auto, unfolding(crate::specs::Address::behind_address))]
-fn behind_address(s: &[u8], at: usize, q: usize, w: Allowed) -> Addressed
-    ensures { result ≡ behind_address w s.now at q }
+#[tactic(auto, unfolding(crate::specs::Address::address_at, crate::specs::Address::behind_address))]
+pub fn address_at(s: &[u8], at: usize, w: Allowed) -> Result<(Address, usize), usize>
+    ensures { result ≡ address_at w s.now at }
 {
+    let q = expression_form(s, at)?;
     if byte_at(s, q) == b'(' {
         items_at(s, at, q + 1, w)
     } else {
         plain(at, q, w)
-    }
-}
-
-#[tactic(auto, unfolding(crate::specs::Address::address_at))]
-pub fn address_at(s: &[u8], at: usize, w: Allowed) -> Addressed
-    ensures { result ≡ address_at w s.now at }
-{
-    match expression_form(s, at) {
-        Form::Fails(q) => Addressed::Stops(q),
-        Form::Ends(q) => behind_address(s, at, q, w),
     }
 }

@@ -1,7 +1,7 @@
--- The laws that callers cite: Laws on the reader's answers, Turns on a loop over the records, Written on what is written, RoundTrip on reading what was written.
+-- The laws that callers cite: Laws on the reader's answers, Turns on a loop over the records, Records on the records that are left, Places on the parts of a record, Written on what is written, RoundTrip on reading what was written.
 pub mod Laws
-pub mod Header
 pub mod Places
 pub mod Turns
+pub mod Records
 pub mod Written
 pub mod RoundTrip

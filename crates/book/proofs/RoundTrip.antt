@@ -3,7 +3,7 @@ use Prim.Native.Nat.{ℕ, zero, suc, ◌+◌, ◌*◌, ◌/◌, ◌%◌, ◌≤�
 use mathlib.Core.List.{List, [], ◌∷◌, ◌++◌, append_assoc}
 use mathlib.Core.Path.{◌≡◌, refl, sym, ap, ◌∙◌}
 use mathlib.Core.Bool.{true}
-use mathlib.Core.Option.{some}
+use Rattle.std.specs.Prelude.{Some, Option, None}
 use native.Mathlib.Omega.{arith}
 use native.Mathlib.Nat.{add-zero}
 use lib.ListN.{length, drop, length-append}
@@ -11,12 +11,11 @@ use lib.Seq.{drop-drop, drop-append_seam, take-append_seam, get_or-append-add}
 use borrow.Author.Tests.{le-leb, eq-eqb, ne_eqb, leb-true}
 use Rattle.values.specs.Words.{word, long, part}
 use Rattle.values.proofs.Laws.{word-shift, part-shift, long_four}
-use Rattle.book.specs.declared.Entry.{Entry}
-use Rattle.book.specs.declared.Entry.TheVariants.{Absent, At}
 use Rattle.book.specs.Book.{Record, Book, records_from, header_ok, entry_at, book_of, rest_head, record_head, rest_at, card_at, address_at, count_at, size_at, text_at, next_at, record_at, record_ok}
 use Rattle.book.specs.Writing.{record_bytes, records_bytes, entry_bytes, header_bytes, entry_fits, book_bytes, fair_all}
 use Rattle.book.proofs.Laws.{Fair, is_whole, fields-few}
 use Rattle.book.proofs.Written.{record_length_lem, header_length, fair-first, records-length}
+use Rattle.values.specs.declared.Relocatable.{Relocatable}
 
 -- A RECORD BEHIND SOMETHING, AND SOMETHING BEHIND IT
 
@@ -81,7 +80,7 @@ module _ (last : ℕ) (r : Record) (f : Fair last r) (pre rest : List ℕ) where
 -- ALL RECORDS
 
 back : (rs : List Record) (pre : List ℕ) (last n : ℕ) → fair_all last rs ≡ true → length rs < n
-    → records_from n (pre ++ records_bytes rs) (length pre) last ≡ some rs
+    → records_from n (pre ++ records_bytes rs) (length pre) last ≡ Some rs
 unfolding records_from records_bytes
 back [] pre last zero e h = absurd (omega arith)
 back [] pre last (suc n) e h =
@@ -101,36 +100,36 @@ back (r ∷ rs) pre last (suc n) e h =
 -- THE BOOK
 
 -- the header in front of records of so many bytes
-abbrev front : Entry → ℕ → List ℕ
+abbrev front : Option Relocatable → ℕ → List ℕ
 front e n = header_bytes (4 + n) e
 
 module _ (x : List ℕ) (short : length x ≤ 1564000) where
   -- the header keeps the layout, and its entry is read back
-  front_ok : (e : Entry) → header_ok (front e (length x) ++ x) ≡ true
+  front_ok : (e : Option Relocatable) → header_ok (front e (length x) ++ x) ≡ true
   unfolding header_ok word
   front_ok e = go e
     where
-      size : (e : Entry) → length (front e (length x) ++ x) ≡ 8 + length x
+      size : (e : Option Relocatable) → length (front e (length x) ++ x) ≡ 8 + length x
       size e = length-append (front e (length x)) x ∙ ap (λ n. n + length x) (header_length (4 + length x) e)
 
-      go : (e : Entry) → header_ok (front e (length x) ++ x) ≡ true
-      go Absent =
-          let l = size Absent in
-          rw (le-leb 8 (length (front Absent (length x) ++ x)) (omega arith), eq-eqb (long (front Absent (length x) ++ x) 0 + 4) (length (front Absent (length x) ++ x)) (omega (arith, long_four (4 + length x) ((1 ∷ entry_bytes Absent) ++ x) (omega arith))))
-      go (At v) =
-          let l = size (At v) in
-          rw (le-leb 8 (length (front (At v) (length x) ++ x)) (omega arith), eq-eqb (long (front (At v) (length x) ++ x) 0 + 4) (length (front (At v) (length x) ++ x)) (omega (arith, long_four (4 + length x) ((1 ∷ entry_bytes (At v)) ++ x) (omega arith))))
+      go : (e : Option Relocatable) → header_ok (front e (length x) ++ x) ≡ true
+      go None =
+          let l = size None in
+          rw (le-leb 8 (length (front None (length x) ++ x)) (omega arith), eq-eqb (long (front None (length x) ++ x) 0 + 4) (length (front None (length x) ++ x)) (omega (arith, long_four (4 + length x) ((1 ∷ entry_bytes None) ++ x) (omega arith))))
+      go (Some v) =
+          let l = size (Some v) in
+          rw (le-leb 8 (length (front (Some v) (length x) ++ x)) (omega arith), eq-eqb (long (front (Some v) (length x) ++ x) 0 + 4) (length (front (Some v) (length x) ++ x)) (omega (arith, long_four (4 + length x) ((1 ∷ entry_bytes (Some v)) ++ x) (omega arith))))
 
-  front-entry : (e : Entry) → entry_fits e ≡ true → entry_at (front e (length x) ++ x) ≡ e
+  front-entry : (e : Option Relocatable) → entry_fits e ≡ true → entry_at (front e (length x) ++ x) ≡ e
   unfolding entry_at word
-  front-entry Absent f = refl
-  front-entry (At v) f =
+  front-entry None f = refl
+  front-entry (Some v) f =
       let h = leb-true v.0 65535 f in
       let w : v.0 / 256 % 256 * 256 + v.0 % 256 ≡ v.0 = omega arith in
-      ap (λ n. At (record { 0 = n })) w
+      ap (λ n. Some (record { 0 = n })) w
 
 -- reading what was written gives the same entry and records
-pub round_trip : (b : Book) → entry_fits b.entry ≡ true → fair_all 0 b.records ≡ true → book_of (book_bytes b) ≡ some b
+pub round_trip : (b : Book) → entry_fits b.entry ≡ true → fair_all 0 b.records ≡ true → book_of (book_bytes b) ≡ Some b
 unfolding book_of book_bytes
 round_trip b fits fairs =
     let x = records_bytes b.records in

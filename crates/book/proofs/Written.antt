@@ -3,18 +3,17 @@ use Prim.Native.Nat.{ℕ, suc, ◌+◌, ◌-◌, ◌*◌, ◌≤◌, ◌<◌}
 use mathlib.Core.List.{List, [], ◌∷◌}
 use mathlib.Core.Path.{◌≡◌, refl, sym, ap, ◌∙◌}
 use mathlib.Core.Bool.{Bool, true, false}
-use mathlib.Core.Option.{Option, none, some}
+use Rattle.std.specs.Prelude.{Option, None, Some}
 use native.Mathlib.Omega.{arith}
 use lib.ListN.{length, set, length-append}
 use lib.Seq.{sets, set_comm}
 use Rattle.values.specs.Tests.{pick}
 use Rattle.values.proofs.Laws.{clash, both_true, sets_append}
-use Rattle.book.specs.declared.Entry.{Entry}
-use Rattle.book.specs.declared.Entry.TheVariants.{Absent, At}
 use Rattle.book.specs.Book.{Record, Book, fair, record_head, record_at, records_from, header_ok, entry_at, with_entry, book_of}
 use Rattle.book.specs.Writing.{record_bytes, records_bytes, header_bytes, book_bytes, fair_all}
 use Rattle.book.proofs.Laws.{Fair, fair-is, is-fair, fields-few}
 use Rattle.book.proofs.Turns.{by-records}
+use Rattle.values.specs.declared.Relocatable.{Relocatable}
 
 -- LENGTHS
 
@@ -22,9 +21,9 @@ pub record_length_lem : (r : Record) → length (record_bytes r) ≡ record_head
 unfolding record_bytes
 record_length_lem r = simp length-append (omega arith)
 
-pub header_length : (rest : ℕ) (e : Entry) → length (header_bytes rest e) ≡ 8
-header_length rest Absent = refl
-header_length rest (At v) = refl
+pub header_length : (rest : ℕ) (e : Option Relocatable) → length (header_bytes rest e) ≡ 8
+header_length rest None = refl
+header_length rest (Some v) = refl
 
 pub book-length : (b : Book) → length (book_bytes b) ≡ 8 + length (records_bytes b.records)
 unfolding book_bytes
@@ -54,17 +53,17 @@ records-length (r ∷ rs) last e h =
     (omega arith, omega arith)
 
 -- the records that were read are such
-from-fair : (n : ℕ) (s : List ℕ) (at last : ℕ) (rs : List Record) → records_from n s at last ≡ some rs → fair_all last rs ≡ true
+from-fair : (n : ℕ) (s : List ℕ) (at last : ℕ) (rs : List Record) → records_from n s at last ≡ Some rs → fair_all last rs ≡ true
 unfolding fair_all
 from-fair n s = by-records s (λ at last rs. fair_all last rs ≡ true) (λ last. refl) (λ at last rest w ih. rw (is-fair last (record_at s at) w.is) ih) n
 
-pub read-fair : (s : List ℕ) (b : Book) → book_of s ≡ some b → fair_all 0 b.records ≡ true
+pub read-fair : (s : List ℕ) (b : Book) → book_of s ≡ Some b → fair_all 0 b.records ≡ true
 unfolding book_of
 read-fair s b h = go (header_ok s) (records_from (length s) s 8 0) refl h
   where
-    go : (x : Bool) (o : Option (List Record)) → records_from (length s) s 8 0 ≡ o → pick x (with_entry (entry_at s) o) none ≡ some b → fair_all 0 b.records ≡ true
-    go true none f h = clash (cc)
-    go true (some rs) f h = let e : rs ≡ b.records = cc in rw (← e) (from-fair (length s) s 8 0 rs f)
+    go : (x : Bool) (o : Option (List Record)) → records_from (length s) s 8 0 ≡ o → pick x (with_entry (entry_at s) o) None ≡ Some b → fair_all 0 b.records ≡ true
+    go true None f h = clash (cc)
+    go true (Some rs) f h = let e : rs ≡ b.records = cc in rw (← e) (from-fair (length s) s 8 0 rs f)
     go false o f h = clash (cc)
 
 -- A HEADER LAID BEFORE RECORDS THAT ARE THERE

@@ -1,10 +1,8 @@
 -- R16, the book: a list of bytes read as an entry and records, or refused.
-use Rattle.std.specs.Prelude.{ℕ, zero, suc, ◌+◌, ◌-◌, List, [], ◌∷◌, Bool, true, length, get_or, ltb, leb, eqb}
-use Rattle.std.proofs.Math.Option.{Option, none, some}
+use Rattle.std.specs.Prelude.{ℕ, zero, suc, ◌+◌, ◌-◌, List, [], ◌∷◌, Bool, true, length, get_or, ltb, leb, eqb, Option, Some, None}
 use Rattle.values.specs.Tests.{pick, both}
 use Rattle.values.specs.Words.{word, long, part}
-use Rattle.book.specs.declared.Entry.{Entry}
-use Rattle.book.specs.declared.Entry.TheVariants.{Absent, At}
+use Rattle.values.specs.declared.Relocatable.{Relocatable}
 
 -- R16.4: one record: its card, its address, the offsets of its fields, its text
 pub record Record : Type 0 where
@@ -15,7 +13,7 @@ pub record Record : Type 0 where
 
 -- R16.1: a book: the entry, or none, and the records in card order
 pub record Book : Type 0 where
-  pub entry : Entry
+  pub entry : Option Relocatable
   pub records : List Record
 
 -- WHAT A RECORD MUST BE
@@ -84,15 +82,15 @@ record_ok s at last =
 -- THE BOOK
 
 abbrev pub onto : Record → Option (List Record) → Option (List Record)
-onto r none = none
-onto r (some rs) = some (r ∷ rs)
+onto r None = None
+onto r (Some rs) = Some (r ∷ rs)
 
 -- R16.7: the records from a place to the end, with nothing behind the last; the first number only bounds the recursion
 unfoldable pub records_from : ℕ → List ℕ → ℕ → ℕ → Option (List Record)
-records_from zero s at last = none
+records_from zero s at last = None
 records_from (suc n) s at last =
-    pick (eqb at (length s)) (some [])
-    (pick (record_ok s at last) (onto (record_at s at) (records_from n s (next_at s at) (card_at s at))) none)
+    pick (eqb at (length s)) (Some [])
+    (pick (record_ok s at last) (onto (record_at s at) (records_from n s (next_at s at) (card_at s at))) None)
 
 -- R16.2, R16.7: the length of the rest, version 1, the flag 0 or 1, the entry 0 where the flag is 0
 unfoldable pub header_ok : List ℕ → Bool
@@ -103,13 +101,13 @@ header_ok s =
     (both (leb (get_or s 5 0) 1) (pick (eqb (get_or s 5 0) 0) (eqb (word s 6) 0) true))))
 
 -- R16.2: the entry, where the flag says that there is one
-unfoldable pub entry_at : List ℕ → Entry
-entry_at s = pick (eqb (get_or s 5 0) 0) Absent (At (record { 0 = word s 6 }))
+unfoldable pub entry_at : List ℕ → Option Relocatable
+entry_at s = pick (eqb (get_or s 5 0) 0) None (Some (record { 0 = word s 6 }))
 
-abbrev pub with_entry : Entry → Option (List Record) → Option Book
-with_entry e none = none
-with_entry e (some rs) = some (record { entry = e; records = rs })
+abbrev pub with_entry : Option Relocatable → Option (List Record) → Option Book
+with_entry e None = None
+with_entry e (Some rs) = Some (record { entry = e; records = rs })
 
 -- R16.8: the book that a list of bytes is; none where it breaks its layout (50)
 unfoldable pub book_of : List ℕ → Option Book
-book_of s = pick (header_ok s) (with_entry (entry_at s) (records_from (length s) s 8 0)) none
+book_of s = pick (header_ok s) (with_entry (entry_at s) (records_from (length s) s 8 0)) None

@@ -1,3 +1,4 @@
 pub mod Book
 pub mod Reading
+pub mod Records
 pub mod Writing

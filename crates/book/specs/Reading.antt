@@ -1,17 +1,13 @@
 -- R16.10: what the readers of a book answer.
-use Rattle.std.specs.Prelude.{ℕ, ◌+◌, ◌≤◌, List, [], ◌≡◌, true, length, eqb}
-use Rattle.std.proofs.Math.Option.{Option, none, some}
+use Rattle.std.specs.Prelude.{ℕ, ◌+◌, ◌≤◌, List, [], ◌≡◌, true, length, eqb, Option, Some, None, Result, Ok, Err}
 use Rattle.values.specs.Tests.{pick}
 use Rattle.values.specs.Words.{part}
-use Rattle.book.specs.declared.Entry.{Entry}
 use Rattle.book.specs.declared.Cursor.{Cursor}
 use Rattle.book.specs.declared.Place.{Place}
-use Rattle.book.specs.declared.Step.{Step}
-use Rattle.book.specs.declared.Step.TheVariants.{Record, End, Broken}
-use Rattle.book.specs.declared.Layout.{Layout}
-use Rattle.book.specs.declared.Layout.TheVariants.{Whole}
 use Rattle.book.specs.Book as B
 use Rattle.book.specs.Book.{Book, book_of, fields_fit, header_ok, entry_at, record_ok, record_head, card_at, address_at, count_at, size_at, text_at, next_at}
+use Rattle.values.specs.declared.Relocatable.{Relocatable}
+use Rattle.book.specs.declared.Broken.{Broken}
 
 -- where the parts of the record at a place stand
 abbrev pub place_at : List ℕ → ℕ → Place
@@ -39,28 +35,35 @@ record_there s p =
 abbrev pub behind : List ℕ → ℕ → Cursor
 behind s at = record { at = next_at s at; card = card_at s at }
 
+abbrev pub broken : Broken
+broken = record {}
+
+-- the record whose parts stand at a place, and the cursor behind it
+abbrev pub found : Place → Cursor → Result (Option (Place × Cursor)) Broken
+found p c = Ok (Some (p, c))
+
 -- R16.10: one step: the record at a place, the end, or a broken layout
-unfoldable pub step_at : List ℕ → ℕ → ℕ → Step
-step_at s at last = pick (eqb at (length s)) End (pick (record_ok s at last) (Record (place_at s at) (behind s at)) Broken)
+unfoldable pub step_at : List ℕ → ℕ → ℕ → Result (Option (Place × Cursor)) Broken
+step_at s at last = pick (eqb at (length s)) (Ok None) (pick (record_ok s at last) (found (place_at s at) (behind s at)) (Err broken))
 
-abbrev pub header_of : List ℕ → Layout
-header_of s = pick (header_ok s) (Whole (entry_at s)) Layout.Broken
+abbrev pub header_of : List ℕ → Result (Option Relocatable) Broken
+header_of s = pick (header_ok s) (Ok (entry_at s)) (Err broken)
 
-abbrev pub layout_in : Option Book → Layout
-layout_in none = Layout.Broken
-layout_in (some b) = Whole b.entry
+abbrev pub layout_in : Option Book → Result (Option Relocatable) Broken
+layout_in None = Err broken
+layout_in (Some b) = Ok b.entry
 
 -- R16.8: whether a list of bytes keeps the layout of a book, and then its entry
-unfoldable pub layout_of : List ℕ → Layout
+unfoldable pub layout_of : List ℕ → Result (Option Relocatable) Broken
 layout_of s = layout_in (book_of s)
 
 -- the book keeps its layout
 abbrev pub Kept : List ℕ → Type 0
-Kept s = (e : Entry) × (Whole e ≡ layout_of s)
+Kept s = (e : Option Relocatable) × (Ok e ≡ layout_of s)
 
 abbrev pub records_or : Option Book → List B.Record
-records_or none = []
-records_or (some b) = b.records
+records_or None = []
+records_or (Some b) = b.records
 
 -- the records of a book; no records where it breaks its layout
 unfoldable pub records_in : List ℕ → List B.Record

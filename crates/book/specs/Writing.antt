@@ -1,10 +1,9 @@
 -- R16.2, R16.4: a book's bytes, from its entry and records.
-use Rattle.std.specs.Prelude.{ℕ, ◌+◌, List, [], ◌∷◌, ◌++◌, Bool, true, length, leb, eqb}
+use Rattle.std.specs.Prelude.{ℕ, ◌+◌, List, [], ◌∷◌, ◌++◌, Bool, true, length, leb, eqb, Option, Some, None}
 use Rattle.values.specs.Tests.{pick, both}
 use Rattle.values.specs.Words.{two_bytes, four_bytes}
-use Rattle.book.specs.declared.Entry.{Entry}
-use Rattle.book.specs.declared.Entry.TheVariants.{Absent, At}
 use Rattle.book.specs.Book.{Record, Book, fair, rest_head, record_head}
+use Rattle.values.specs.declared.Relocatable.{Relocatable}
 
 -- R16.4: a record's head: the length of its rest, its card, its address, the count of its fields
 abbrev pub head_bytes : ℕ → ℕ → ℕ → ℕ → List ℕ
@@ -24,12 +23,12 @@ records_bytes [] = []
 records_bytes (r ∷ rs) = record_bytes r ++ records_bytes rs
 
 -- R16.2: the flag and the entry
-abbrev pub entry_bytes : Entry → List ℕ
-entry_bytes Absent = 0 ∷ 0 ∷ 0 ∷ []
-entry_bytes (At e) = 1 ∷ two_bytes e.0
+abbrev pub entry_bytes : Option Relocatable → List ℕ
+entry_bytes None = 0 ∷ 0 ∷ 0 ∷ []
+entry_bytes (Some e) = 1 ∷ two_bytes e.0
 
 -- R16.2: a book's header: the length of the rest, version 1, the entry
-abbrev pub header_bytes : ℕ → Entry → List ℕ
+abbrev pub header_bytes : ℕ → Option Relocatable → List ℕ
 header_bytes rest e = four_bytes rest ++ (1 ∷ entry_bytes e)
 
 -- R16.1: the header, the records; the rest begins behind the length
@@ -37,9 +36,9 @@ unfoldable pub book_bytes : Book → List ℕ
 book_bytes b = header_bytes (4 + length (records_bytes b.records)) b.entry ++ records_bytes b.records
 
 -- an entry that two bytes can hold
-abbrev pub entry_fits : Entry → Bool
-entry_fits Absent = true
-entry_fits (At e) = leb e.0 65535
+abbrev pub entry_fits : Option Relocatable → Bool
+entry_fits None = true
+entry_fits (Some e) = leb e.0 65535
 
 -- records each of which may follow the one before
 unfoldable pub fair_all : ℕ → List Record → Bool

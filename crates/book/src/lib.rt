@@ -1,6 +1,7 @@
 // R16, the book: its header, and its records read one at a time.
 #![tactic(auto)]
 
+pub mod record;
 pub mod writing;
 
 ghost use Rattle.std.specs.Prelude.{◌≡◌, ◌+◌, ◌<◌};
@@ -8,7 +9,7 @@ ghost use Rattle.book.specs.Book.{fields_fit};
 ghost use Rattle.book.specs.Reading.{step_at, header_of, layout_of};
 
 use values::Relocatable;
-use values::words::{long_at, wide, wide16, word_at};
+use values::words::{long_at, word_at};
 
 // The bytes of a record's head that its length counts: card, address, count of fields.
 pub const REST_HEAD: usize = 5;
@@ -16,15 +17,12 @@ pub const REST_HEAD: usize = 5;
 // The bytes of the whole head, with the two of the length: behind it the offsets stand.
 pub const RECORD_HEAD: usize = 7;
 
-// Where the program starts, if its END card said so.
-#[derive(Clone, Copy)]
-pub enum Entry {
-    Absent,
-    At(Relocatable),
-}
+// A book that breaks its layout.
+#[derive(Clone, Copy, Debug, PartialEq, Eq)]
+pub struct Broken;
 
 // Where the parts of a record stand in the book, with its card and address.
-#[derive(Clone, Copy)]
+#[derive(Clone, Copy, Debug, PartialEq, Eq)]
 pub struct Place {
     pub card: u16,
     pub address: Relocatable,
@@ -35,24 +33,10 @@ pub struct Place {
 }
 
 // The place that a reader has got to, and the card of the record before it.
-#[derive(Clone, Copy)]
+#[derive(Clone, Copy, Debug, PartialEq, Eq)]
 pub struct Cursor {
     pub at: usize,
     pub card: u16,
-}
-
-#[derive(Clone, Copy)]
-pub enum Step {
-    Record(Place, Cursor),
-    End,
-    Broken,
-}
-
-// Whether the layout is kept, of the header or of the whole book; then the entry.
-#[derive(Clone, Copy)]
-pub enum Layout {
-    Whole(Entry),
-    Broken,
 }
 
 // Offsets that ascend by at least 2, each with its two bytes inside a text of `size` bytes.
@@ -61,9 +45,8 @@ pub fn fields_fit(offsets: &[u8], size: usize) -> bool
     ensures { result ≡ fields_fit 0 size offsets.now }
 {
     let mut least = 0;
-    let mut i = 0;
-    while i < offsets.len() {
-        let offset = wide(offsets[i]);
+    for &byte in offsets {
+        let offset = usize::from(byte);
         if offset < least {
             return false;
         }
@@ -71,7 +54,6 @@ pub fn fields_fit(offsets: &[u8], size: usize) -> bool
             return false;
         }
         least = offset + 2;
-        i += 1;
     }
     true
 }
@@ -85,49 +67,49 @@ impl Cursor {
     }
 
     // The record at the cursor, the end, or a broken layout.
-    #[tactic(auto, unfolding(crate::specs::Reading::step_at))]
-    pub fn next(self, book: &[u8]) -> Step
+    #[tactic(auto, unfolding(crate::specs::Reading::step_at, crate::specs::Book::record_ok, crate::specs::Book::fair))]
+    pub fn next(self, book: &[u8]) -> Result<Option<(Place, Cursor)>, Broken>
         ensures { result ≡ step_at book.now self.at self.card }
     {
         let at = self.at;
         let last = self.card;
         if at == book.len() {
-            return Step::End;
+            return Ok(None);
         }
         if book.len() <= at {
-            return Step::Broken;
+            return Err(Broken);
         }
         if book.len() < at + 8 {
-            return Step::Broken;
+            return Err(Broken);
         }
-        let rest = wide16(word_at(book, at));
+        let rest = usize::from(word_at(book, at));
         let behind = at + 2 + rest;
         if book.len() < behind {
-            return Step::Broken;
+            return Err(Broken);
         }
-        let count = wide(book[at + 6]);
+        let count = usize::from(book[at + 6]);
         if rest <= REST_HEAD + count {
-            return Step::Broken;
+            return Err(Broken);
         }
         let size = rest - (REST_HEAD + count);
         if 256 < size {
-            return Step::Broken;
+            return Err(Broken);
         }
         let card = word_at(book, at + 2);
         if card <= last {
-            return Step::Broken;
+            return Err(Broken);
         }
         if 4000 < card {
-            return Step::Broken;
+            return Err(Broken);
         }
         let address = word_at(book, at + 4);
-        if 65536 < wide16(address) + size {
-            return Step::Broken;
+        if 65536 < usize::from(address) + size {
+            return Err(Broken);
         }
         let fields = at + RECORD_HEAD;
         let text = fields + count;
         if !fields_fit(&book[fields..text], size) {
-            return Step::Broken;
+            return Err(Broken);
         }
         let place = Place {
             card,
@@ -137,58 +119,39 @@ impl Cursor {
             text,
             size,
         };
-        Step::Record(place, Cursor { at: behind, card })
+        Ok(Some((place, Cursor { at: behind, card })))
     }
 }
 
 // The header alone: it says nothing of the records.
-fn read_header(book: &[u8]) -> Layout
+#[tactic(auto, unfolding(crate::specs::Book::header_ok, crate::specs::Book::entry_at))]
+fn read_header(book: &[u8]) -> Result<Option<Relocatable>, Broken>
     ensures { result ≡ header_of book.now }
 {
     if book.len() < 8 {
-        return Layout::Broken;
+        return Err(Broken);
     }
     if long_at(book, 0) + 4 != book.len() {
-        return Layout::Broken;
+        return Err(Broken);
     }
     if book[4] != 1 {
-        return Layout::Broken;
+        return Err(Broken);
     }
-    let flag = book[5];
-    if 1 < flag {
-        return Layout::Broken;
+    match (book[5], word_at(book, 6)) {
+        (0, 0) => Ok(None),
+        (1, entry) => Ok(Some(Relocatable(entry))),
+        _ => Err(Broken),
     }
-    let entry = word_at(book, 6);
-    if flag == 0 {
-        if entry != 0 {
-            return Layout::Broken;
-        }
-        return Layout::Whole(Entry::Absent);
-    }
-    Layout::Whole(Entry::At(Relocatable(entry)))
 }
 
 // The whole book: its header and every record.
-pub fn read_layout(book: &[u8]) -> Layout
+pub fn read_layout(book: &[u8]) -> Result<Option<Relocatable>, Broken>
     ensures { result ≡ layout_of book.now }
 {
-    match read_header(book) {
-        Layout::Broken => Layout::Broken,
-        Layout::Whole(entry) => {
-            let mut cursor = Cursor::first();
-            loop {
-                match cursor.next(book) {
-                    Step::Broken => {
-                        return Layout::Broken;
-                    }
-                    Step::End => {
-                        return Layout::Whole(entry);
-                    }
-                    Step::Record(_, behind) => {
-                        cursor = behind;
-                    }
-                }
-            }
-        }
+    let entry = read_header(book)?;
+    let mut cursor = Cursor::first();
+    while let Some((_, behind)) = cursor.next(book)? {
+        cursor = behind;
     }
+    Ok(entry)
 }

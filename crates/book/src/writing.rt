@@ -4,8 +4,9 @@ ghost use Rattle.std.proofs.lemmas.List.Edits.{sets};
 ghost use Rattle.book.specs.Book.{record_head};
 ghost use Rattle.book.specs.Writing.{record_length, head_bytes, entry_bytes, header_bytes};
 
-use crate::{Entry, RECORD_HEAD};
-use values::words::put_word;
+use crate::RECORD_HEAD;
+use values::Relocatable;
+use values::words::{put_bytes, put_word};
 
 // How long the record of a text is: there is none where it has no byte.
 pub fn record_length(size: usize, count: usize) -> usize
@@ -30,16 +31,16 @@ pub fn put_head(rest: u16, card: u16, address: u16, count: u8, m: &mut [u8], to:
 }
 
 // The flag and the entry.
-fn put_entry(e: Entry, m: &mut [u8], to: usize)
+fn put_entry(e: Option<Relocatable>, m: &mut [u8], to: usize)
     requires { to + 3 ≤ length m.old }
     ensures { m.new ≡ sets m.old to (entry_bytes e) }
 {
     match e {
-        Entry::Absent => {
+        None => {
             m[to] = 0;
             put_word(m, to + 1, 0);
         }
-        Entry::At(a) => {
+        Some(a) => {
             m[to] = 1;
             put_word(m, to + 1, a.0);
         }
@@ -47,13 +48,12 @@ fn put_entry(e: Entry, m: &mut [u8], to: usize)
 }
 
 // The length of the rest, version 1, the entry; of a book of so many bytes.
-pub fn put_header(size: usize, e: Entry, m: &mut [u8])
+pub fn put_header(size: usize, e: Option<Relocatable>, m: &mut [u8])
     requires { (4 ≤ size) × (size < 2 ^ 32) × (8 ≤ length m.old) }
     ensures { m.new ≡ sets m.old 0 (header_bytes (size - 4) e) }
 {
     let rest = size - 4;
-    put_word(m, 0, (rest / 65536) as u16);
-    put_word(m, 2, (rest % 65536) as u16);
+    put_bytes(m, 0, &(rest as u32).to_be_bytes());
     m[4] = 1;
     put_entry(e, m, 5);
 }

@@ -1,22 +1,17 @@
 -- Laws of cards: a turn of each reader, and where the fields of a card lie.
 use Prim.Native.Nat.{ℕ, zero, suc, ◌+◌, ◌-◌, ◌≤◌, ◌<◌}
 use mathlib.Core.List.{List, [], ◌∷◌}
-use mathlib.Core.Path.{◌≡◌, refl, ap, ◌∙◌}
+use mathlib.Core.Path.{◌≡◌, refl}
 use mathlib.Core.Bool.{Bool, true, false, not}
-use native.Mathlib.Nat.{not-suc-le-zero}
-use native.Mathlib.Numerals.{sub-one, add-one}
 use native.Mathlib.Omega.{arith}
-use lib.ListN.{length, get_or, drop, drop_of_length-le}
-use lib.Seq.{drop-cons}
+use lib.ListN.{length}
+use Rattle.std.specs.List.{list_all}
+use Rattle.std.specs.Prelude.{◌&&◌, Option, Some, None, Result, Ok, Err}
 use Rattle.letters.specs.Text.{stands, run_end}
-use Rattle.letters.proofs.Runs.{run_more, run_stop, run_none, run_bounds}
+use Rattle.letters.proofs.Runs.{run_bounds}
 use Rattle.values.specs.Tests.{pick, both}
-use Rattle.values.specs.Words.{part}
 use Rattle.letters.specs.Letters.{class_of, is_accepted}
-use Rattle.cards.specs.Source.{columns_of, cards_from}
 use Rattle.terms.specs.Names.{name_at}
-use Rattle.terms.specs.declared.naming.NameRead.{NameRead}
-use Rattle.terms.specs.declared.naming.NameRead.TheVariants.{Named, NoName}
 use Rattle.terms.proofs.Within.{NameWithin, name-within}
 use Rattle.cards.specs.declared.Fields.{Fields}
 use Rattle.cards.specs.declared.Card.{Card}
@@ -25,62 +20,25 @@ use Rattle.cards.specs.Fields.{all_accepted, is_blank_byte, blank_at, turned, op
 
 -- A TURN OF EACH READER
 
-pub accepted-more : (s : List ℕ) (i : ℕ) → i < length s → is_accepted (class_of (get_or s i 0)) ≡ true → all_accepted (drop i s) ≡ all_accepted (drop (i + 1) s)
+-- each byte passes the test
+pub accepted_all : (s : List ℕ) → list_all (λ b. is_accepted (class_of b)) s ≡ all_accepted s
 unfolding all_accepted
-accepted-more s i h e = rw (drop-cons s i 0 h, e, add-one)
-
-pub accepted-stop : (s : List ℕ) (i : ℕ) → i < length s → is_accepted (class_of (get_or s i 0)) ≡ false → all_accepted (drop i s) ≡ false
-unfolding all_accepted
-accepted-stop s i h e = rw (drop-cons s i 0 h, e)
-
-pub accepted-none : (s : List ℕ) (i : ℕ) → length s ≤ i → all_accepted (drop i s) ≡ true
-unfolding all_accepted
-accepted-none s i h = rw (drop_of_length-le s h)
+accepted_all [] = refl
+accepted_all (b ∷ bs) = step (is_accepted (class_of b)) (accepted_all bs)
+  where
+    step : (x : Bool) {y z : Bool} → y ≡ z → x && y ≡ both x z
+    step true e = e
+    step false e = refl
 
 -- one column fewer is left
 less_left : (n i : ℕ) → i < n → n - i ≡ suc (n - (i + 1))
 less_left n i h = omega arith
 
-none_left : (n i : ℕ) → n ≤ i → n - i ≡ 0
-none_left n i h = omega arith
-
 module _ (s : List ℕ) (i : ℕ) where
-  -- a turn of a reader of columns that pass a test
-  pub columns-more : (goes : ℕ → Bool) → i < length s → goes (get_or s i 0) ≡ true → run_end goes (length s - i) s i ≡ run_end goes (length s - (i + 1)) s (i + 1)
-  columns-more goes h e =
-      let less : length s - i - 1 ≡ length s - (i + 1) = omega arith in
-      run_more goes (length s - i) s i (omega arith) e ∙ ap (λ n. run_end goes n s (i + 1)) less
-
-  pub columns-stop : (goes : ℕ → Bool) → goes (get_or s i 0) ≡ false → run_end goes (length s - i) s i ≡ i
-  columns-stop goes e = run_stop goes (length s - i) s i e
-
-  pub columns-none : (goes : ℕ → Bool) → length s ≤ i → run_end goes (length s - i) s i ≡ i
-  columns-none goes h = run_none goes (length s - i) s i (omega arith)
-
   pub operand-more : (inside : Bool) → i < length s → both (not inside) (blank_at s i) ≡ false
       → operand_end (length s - i) inside s i ≡ operand_end (length s - (i + 1)) (turned inside s i) s (i + 1)
   unfolding operand_end
   operand-more inside h e = rw (less_left (length s) i h, e)
-
-  pub operand-stop : (inside : Bool) → i < length s → both (not inside) (blank_at s i) ≡ true → operand_end (length s - i) inside s i ≡ i
-  unfolding operand_end
-  operand-stop inside h e = rw (less_left (length s) i h, e)
-
-  pub operand-none : (inside : Bool) → length s ≤ i → operand_end (length s - i) inside s i ≡ i
-  unfolding operand_end
-  operand-none inside h = rw (none_left (length s) i h)
-
--- CARDS OF A SOURCE
-
-pub cards-more : (n width : ℕ) (s : List ℕ) (at : ℕ) → 0 < n → cards_from n width s at ≡ part s at (columns_of width) ∷ cards_from (n - 1) width s (at + width)
-unfolding cards_from
-cards-more zero width s at h = absurd (not-suc-le-zero h)
-cards-more (suc n) width s at h = rw sub-one
-
-pub cards-none : (n width : ℕ) (s : List ℕ) (at : ℕ) → n ≤ 0 → cards_from n width s at ≡ []
-unfolding cards_from
-cards-none zero width s at h = refl
-cards-none (suc n) width s at h = absurd (not-suc-le-zero h)
 
 -- WHERE THE FIELDS LIE
 
@@ -105,7 +63,7 @@ module _ (s : List ℕ) where
     pub operand : f.operand ≤ f.end
     pub end : f.end ≤ length s
 
-  pub fields-ordered : (name at : ℕ) → at ≤ length s → Ordered (fields_behind name s at)
+  pub fields-ordered : (name : Option ℕ) (at : ℕ) → at ≤ length s → Ordered (fields_behind name s at)
   unfolding fields_behind
   fields-ordered name at h =
       let a = run_within is_blank_byte (length s - at) at (omega arith) in
@@ -136,15 +94,15 @@ module _ (s : List ℕ) where
   unfolding card_of
   card-within = go (stands "*" s 0) (blank_at s 0)
     where
-      named : (n : NameRead) → NameWithin s 0 n → CardWithin (named_card s n)
-      named (Named number next) w = ends (name_ends s next)
+      named : (n : Result (ℕ × ℕ) ℕ) → NameWithin s 0 n → CardWithin (named_card s n)
+      named (Ok (number, next)) w = ends (name_ends s next)
         where
-          ends : (x : Bool) → CardWithin (pick x (Statement (fields_behind number s next)) BadName)
-          ends true = fields-ordered number next w.1
+          ends : (x : Bool) → CardWithin (pick x (Statement (fields_behind (Some number) s next)) BadName)
+          ends true = fields-ordered (Some number) next w.1
           ends false = tt
-      named (NoName place) w = tt
+      named (Err place) w = tt
 
-      go : (x y : Bool) → CardWithin (pick x Comment (pick y (Statement (fields_behind 0 s 0)) (named_card s (name_at s 0))))
+      go : (x y : Bool) → CardWithin (pick x Comment (pick y (Statement (fields_behind None s 0)) (named_card s (name_at s 0))))
       go true y = tt
-      go false true = fields-ordered 0 0 (omega arith)
+      go false true = fields-ordered None 0 (omega arith)
       go false false = named (name_at s 0) (name-within s 0)

@@ -1,11 +1,8 @@
 -- R2: a card's statement columns taken apart. Positions count from 0.
-use Rattle.std.specs.Prelude.{ℕ, zero, suc, ◌+◌, ◌-◌, List, [], ◌∷◌, Bool, true, false, not, length, get_or, leb, eqb}
-use Prim.Native.Char.{Char}
+use Rattle.std.specs.Prelude.{ℕ, zero, suc, ◌+◌, ◌-◌, List, [], ◌∷◌, Bool, true, false, not, length, get_or, leb, eqb, Option, Some, None, Result, Ok, Err}
 use Rattle.letters.specs.Text.{stands, run_end}
 use Rattle.values.specs.Tests.{pick, both, either}
 use Rattle.letters.specs.Letters.{class_of, is_blank, is_accepted}
-use Rattle.terms.specs.declared.naming.NameRead.{NameRead}
-use Rattle.terms.specs.declared.naming.NameRead.TheVariants.{Named, NoName}
 use Rattle.terms.specs.Names.{name_at}
 use Rattle.cards.specs.declared.Fields.{Fields}
 use Rattle.cards.specs.declared.Card.{Card}
@@ -59,7 +56,7 @@ abbrev pub lone_comma : List ℕ → ℕ → ℕ → Bool
 lone_comma s from to = both (eqb to (from + 1)) (stands "," s from)
 
 -- R2.5 to R2.8: where operation and operand lie, from a column on. An absent one ends where it starts
-unfoldable pub fields_behind : ℕ → List ℕ → ℕ → Fields
+unfoldable pub fields_behind : Option ℕ → List ℕ → ℕ → Fields
 fields_behind name s at =
     let operation = next_word s at in
     let behind = end_of_word s operation in
@@ -72,10 +69,10 @@ abbrev pub name_ends : List ℕ → ℕ → Bool
 name_ends s at = either (leb (length s) at) (blank_at s at)
 
 -- R2.6, R3.1: 11, where what stands from column 1 to a blank is no name
-abbrev pub named_card : List ℕ → NameRead → Card
-named_card s (Named number next) = pick (name_ends s next) (Statement (fields_behind number s next)) BadName
-named_card s (NoName place) = BadName
+abbrev pub named_card : List ℕ → Result (ℕ × ℕ) ℕ → Card
+named_card s (Ok (number, next)) = pick (name_ends s next) (Statement (fields_behind (Some number) s next)) BadName
+named_card s (Err place) = BadName
 
--- R2.4, R2.6: a card by its column 1: a comment, no name (the number 0), or a name
+-- R2.4, R2.6: a card by its column 1: a comment, no name, or a name
 unfoldable pub card_of : List ℕ → Card
-card_of s = pick (stands "*" s 0) Comment (pick (blank_at s 0) (Statement (fields_behind 0 s 0)) (named_card s (name_at s 0)))
+card_of s = pick (stands "*" s 0) Comment (pick (blank_at s 0) (Statement (fields_behind None s 0)) (named_card s (name_at s 0)))

@@ -5,23 +5,25 @@ pub mod source;
 
 ghost use Rattle.std.specs.Prelude.{◌≡◌, false, not, ◌-◌, ◌≤◌, length};
 ghost use Rattle.values.specs.Tests.{pick, both};
+ghost use Rattle.values.specs.Refusals.{number_in};
+ghost use Rattle.letters.specs.Text.{run_end};
 ghost use Rattle.terms.specs.Names.{name_at};
-ghost use Rattle.cards.specs.Fields.{all_accepted, byte_no, blank_at, blanks_end, word_end, turned, operand_end, lone_comma, fields_behind, name_ends, named_card, card_of};
+ghost use Rattle.cards.specs.Fields.{all_accepted, byte_no, is_blank_byte, blank_at, blanks_end, word_end, turned, operand_end, lone_comma, fields_behind, name_ends, named_card, card_of};
 
 use letters::{byte_at, class_at};
-use terms::naming::NameRead;
+use values::refusals::Refusal;
 
-// The fields of a statement: the name's number, 0 where there is none, and where operation and operand start and end. An absent one ends where it starts.
-#[derive(Clone, Copy)]
+// The fields of a statement: the name's number, and where operation and operand start and end. An absent one ends where it starts.
+#[derive(Clone, Copy, Debug, PartialEq, Eq)]
 pub struct Fields {
-    pub name: u64,
+    pub name: Option<u64>,
     pub operation: usize,
     pub behind: usize,
     pub operand: usize,
     pub end: usize,
 }
 
-#[derive(Clone, Copy)]
+#[derive(Clone, Copy, Debug, PartialEq, Eq)]
 pub enum Card {
     Comment,
     BadName,
@@ -32,22 +34,20 @@ pub enum Card {
 fn all_accepted(s: &[u8]) -> bool
     ensures { result ≡ all_accepted s.now }
 {
-    let mut i = 0;
-    while i < s.len() {
-        if !letters::is_accepted(letters::class_of(s[i])) {
-            return false;
-        }
-        i += 1;
-    }
-    true
+    s.iter()
+        .all(|b| letters::is_accepted(letters::class_of(*b)))
 }
 
-// Refusal 10, over all statement columns of a card; 0: none.
+// 10, over all statement columns of a card.
 #[tactic(auto, unfolding(crate::specs::Fields::byte_no))]
-pub fn byte_no(s: &[u8]) -> u8
-    ensures { result ≡ byte_no s.now }
+pub fn check_bytes(s: &[u8]) -> Result<(), Refusal>
+    ensures { number_in result ≡ byte_no s.now }
 {
-    if all_accepted(s) { 0 } else { 10 }
+    if all_accepted(s) {
+        Ok(())
+    } else {
+        Err(Refusal::BadByte)
+    }
 }
 
 fn blank_at(s: &[u8], at: usize) -> bool
@@ -56,38 +56,33 @@ fn blank_at(s: &[u8], at: usize) -> bool
     letters::is_blank(class_at(s, at))
 }
 
+// The position behind the columns from a position on that are blank, or that are not.
+fn run_end(s: &[u8], at: usize, blank: bool) -> usize
+    requires { at ≤ length s.now }
+    ensures { (result ≡ run_end (λ b. pick blank (is_blank_byte b) (not (is_blank_byte b))) (length s.now - at) s.now at) × (at ≤ result) × (result ≤ length s.now) }
+{
+    let goes_on = |b: &&u8| letters::is_blank(letters::class_of(**b)) == blank;
+    at + s[at..].iter().take_while(goes_on).count()
+}
+
 fn next_word(s: &[u8], at: usize) -> usize
     requires { at ≤ length s.now }
     ensures { (result ≡ blanks_end (length s.now - at) s.now at) × (at ≤ result) × (result ≤ length s.now) }
 {
-    let mut i = at;
-    while i < s.len() {
-        if !blank_at(s, i) {
-            return i;
-        }
-        i += 1;
-    }
-    i
+    run_end(s, at, true)
 }
 
 fn end_of_word(s: &[u8], at: usize) -> usize
     requires { at ≤ length s.now }
     ensures { (result ≡ word_end (length s.now - at) s.now at) × (at ≤ result) × (result ≤ length s.now) }
 {
-    let mut i = at;
-    while i < s.len() {
-        if blank_at(s, i) {
-            return i;
-        }
-        i += 1;
-    }
-    i
+    run_end(s, at, false)
 }
 
 fn ends_here(inside: bool, s: &[u8], at: usize) -> bool
     ensures { result ≡ both (not inside) (blank_at s.now at) }
 {
-    if inside { false } else { blank_at(s, at) }
+    !inside && blank_at(s, at)
 }
 
 fn turned_at(inside: bool, s: &[u8], at: usize) -> bool
@@ -106,15 +101,13 @@ fn end_of_operand(s: &[u8], at: usize) -> usize
     ensures { (result ≡ operand_end (length s.now - at) false s.now at) × (at ≤ result) × (result ≤ length s.now) }
 {
     let mut inside = false;
-    let mut i = at;
-    while i < s.len() {
+    for i in at..s.len() {
         if ends_here(inside, s, i) {
             return i;
         }
         inside = turned_at(inside, s, i);
-        i += 1;
     }
-    i
+    s.len()
 }
 
 // Where an operand ends that a lone comma does not replace.
@@ -122,16 +115,15 @@ fn operand_to(s: &[u8], from: usize, to: usize) -> usize
     requires { (from ≤ to) × (to ≤ length s.now) }
     ensures { result ≡ pick (lone_comma s.now from to) from to }
 {
-    if to - from == 1 {
-        if byte_at(s, from) == b',' {
-            return from;
-        }
+    if to - from == 1 && byte_at(s, from) == b',' {
+        from
+    } else {
+        to
     }
-    to
 }
 
 #[tactic(auto, unfolding(crate::specs::Fields::fields_behind))]
-fn read_fields(s: &[u8], name: u64, at: usize) -> Fields
+fn read_fields(s: &[u8], name: Option<u64>, at: usize) -> Fields
     requires { at ≤ length s.now }
     ensures { result ≡ fields_behind name s.now at }
 {
@@ -139,34 +131,31 @@ fn read_fields(s: &[u8], name: u64, at: usize) -> Fields
     let behind = end_of_word(s, operation);
     let operand = next_word(s, behind);
     let to = end_of_operand(s, operand);
-    let end = operand_to(s, operand, to);
     Fields {
-        name: name,
-        operation: operation,
-        behind: behind,
-        operand: operand,
-        end: end,
+        name,
+        operation,
+        behind,
+        operand,
+        end: operand_to(s, operand, to),
     }
 }
 
 fn name_ends(s: &[u8], at: usize) -> bool
     ensures { result ≡ name_ends s.now at }
 {
-    if s.len() <= at { true } else { blank_at(s, at) }
+    s.len() <= at || blank_at(s, at)
 }
 
 fn read_named(s: &[u8]) -> Card
     ensures { result ≡ named_card s.now (name_at s.now 0) }
 {
     match terms::naming::read_name(s, 0) {
-        NameRead::Named(number, next) => {
-            if name_ends(s, next) {
-                Card::Statement(read_fields(s, number, next))
-            } else {
-                Card::BadName
-            }
-        }
-        NameRead::NoName(_) => Card::BadName,
+        Ok((number, next)) if name_ends(s, next) => Card::Statement(read_fields(
+            s,
+            Some(number),
+            next,
+        )),
+        _ => Card::BadName,
     }
 }
 
@@ -176,10 +165,10 @@ pub fn read_card(s: &[u8]) -> Card
     ensures { result ≡ card_of s.now }
 {
     if byte_at(s, 0) == b'*' {
-        return Card::Comment;
+        Card::Comment
+    } else if blank_at(s, 0) {
+        Card::Statement(read_fields(s, None, 0))
+    } else {
+        read_named(s)
     }
-    if blank_at(s, 0) {
-        return Card::Statement(read_fields(s, 0, 0));
-    }
-    read_named(s)
 }

@@ -9,42 +9,40 @@ use lib.Dec.{eqb}
 use Rattle.values.specs.Tests.{pick}
 use Rattle.data.specs.declared.DataCard.{DataCard}
 use Rattle.data.specs.declared.DataCard.TheVariants.{Constant, Reserve}
-use Rattle.data.specs.declared.DataForm.{DataForm}
-use Rattle.data.specs.declared.DataForm.TheVariants.{Fails, Of}
 use Rattle.data.specs.declared.head.Head.{Head}
-use Rattle.data.specs.declared.head.HeadForm.{HeadForm}
-use Rattle.data.specs.declared.value.Extent.{Extent}
 use Rattle.data.specs.Form.{head_at, value_at, constant_data, reserve_data, constant_up_to, constant_behind, constant_of, constant_form, reserve_of, reserve_form}
+use Rattle.std.specs.Prelude.{Result, Ok, Err}
+use Rattle.data.specs.declared.Data.{Data}
 
 -- an operand that was read is one of this card
-abbrev pub OnCard : DataCard → DataForm → Type 0
-OnCard k (Of d) = d.card ≡ k
-OnCard k (Fails q) = Unit {0}
+abbrev pub OnCard : DataCard → Result Data ℕ → Type 0
+OnCard k (Ok d) = d.card ≡ k
+OnCard k (Err q) = Unit {0}
 
 pub constant-card : (s : List ℕ) → OnCard Constant (constant_form s)
 unfolding constant_form constant_behind
 constant-card s = go (head_at s)
   where
-    picked : (h : Head) (count end : ℕ) (b : Bool) → OnCard Constant (pick b (Of (constant_data h count)) (Fails end))
+    picked : (h : Head) (count end : ℕ) (b : Bool) → OnCard Constant (pick b (Ok (constant_data h count)) (Err end))
     picked h count end true = refl
     picked h count end false = tt
 
-    up_to : (h : Head) (x : Extent) → OnCard Constant (constant_up_to s h x)
-    up_to h (Extent.Of count end) = picked h count end (eqb end (length s))
-    up_to h (Extent.Fails at) = tt
+    up_to : (h : Head) (x : Result (ℕ × ℕ) ℕ) → OnCard Constant (constant_up_to s h x)
+    up_to h (Ok (count, end)) = picked h count end (eqb end (length s))
+    up_to h (Err at) = tt
 
-    go : (x : HeadForm) → OnCard Constant (constant_of s x)
-    go (HeadForm.Of h) = up_to h (value_at s h.kind h.next)
-    go (HeadForm.Fails at) = tt
+    go : (x : Result Head ℕ) → OnCard Constant (constant_of s x)
+    go (Ok h) = up_to h (value_at s h.kind h.next)
+    go (Err at) = tt
 
 pub reserve-card : (s : List ℕ) → OnCard Reserve (reserve_form s)
 unfolding reserve_form
 reserve-card s = go (head_at s)
   where
-    picked : (h : Head) (b : Bool) → OnCard Reserve (pick b (Of (reserve_data h)) (Fails h.next))
+    picked : (h : Head) (b : Bool) → OnCard Reserve (pick b (Ok (reserve_data h)) (Err h.next))
     picked h true = refl
     picked h false = tt
 
-    go : (x : HeadForm) → OnCard Reserve (reserve_of s x)
-    go (HeadForm.Of h) = picked h (eqb h.next (length s))
-    go (HeadForm.Fails at) = tt
+    go : (x : Result Head ℕ) → OnCard Reserve (reserve_of s x)
+    go (Ok h) = picked h (eqb h.next (length s))
+    go (Err at) = tt

@@ -1,6 +1,6 @@
 -- The text of a constant: how long it is, and a turn of each loop that lays it.
 use Prim.Native.Nat.{ℕ, zero, suc, ◌+◌, ◌-◌, ◌*◌, ◌/◌, ◌%◌, ◌≤◌, ◌<◌}
-use mathlib.Core.List.{List, ◌∷◌}
+use mathlib.Core.List.{List, ◌∷◌, ◌++◌, append_assoc}
 use mathlib.Core.Path.{◌≡◌, refl, sym, ap, ◌∙◌}
 use mathlib.Core.Bool.{Bool, true, false}
 use native.Mathlib.Nat.{not-suc-le-zero, suc-mul}
@@ -8,8 +8,11 @@ use native.Mathlib.Numerals.{sub-one}
 use native.Mathlib.Omega.{arith}
 use borrow.Author.Tests.{eqb-true, eqb-false, ne_eqb}
 use lib.Dec.{eqb}
-use lib.ListN.{length, set, replicate, length-append, length-replicate}
-use lib.Seq.{sets}
+use lib.ListN.{length, set, take, drop, length-append, length-replicate}
+use lib.Seq.{sets, sets-eq}
+use borrow.Rule.Slice.PartMut.{put_mid}
+use Rattle.std.proofs.lemmas.Slice.{put_mid-paste}
+use Rattle.std.proofs.lemmas.List.Edits.{paste_all}
 use Rattle.values.specs.Tests.{pick}
 use Rattle.values.proofs.Laws.{sets_append}
 use Rattle.terms.specs.Terms.{quoted_at}
@@ -88,20 +91,11 @@ module _ (n i : ℕ) (s : List ℕ) (at : ℕ) (h : i < n) where
   unfolding pairs_from
   pairs_more = rw left
 
-pub fill_more : (n i b : ℕ) → i < n → replicate (n - i) b ≡ b ∷ replicate (n - (i + 1)) b
-fill_more n i b h = let k : n - i ≡ suc (n - (i + 1)) = omega arith in rw k
-
--- nothing is left to store
-pub codes_done : (m : List ℕ) (to n i : ℕ) (s : List ℕ) (at : ℕ) → n ≤ i → sets m to (codes_from (n - i) s at) ≡ m
-unfolding codes_from
-codes_done m to n i s at h = let k : n - i ≡ 0 = omega arith in rw k
-
-pub pairs_done : (m : List ℕ) (to n i : ℕ) (s : List ℕ) (at : ℕ) → n ≤ i → sets m to (pairs_from (n - i) s at) ≡ m
-unfolding pairs_from
-pairs_done m to n i s at h = let k : n - i ≡ 0 = omega arith in rw k
-
-pub fill_done : (m : List ℕ) (to n i b : ℕ) → n ≤ i → sets m to (replicate (n - i) b) ≡ m
-fill_done m to n i b h = let k : n - i ≡ 0 = omega arith in rw k
+-- a part written over, as a run stored from where it begins
+pub part-stored : (m : List ℕ) (at n : ℕ) (ys zs : List ℕ) → at + n ≤ length m → ys ≡ zs → length zs ≡ n → put_mid at n m ys ≡ sets m at zs
+part-stored m at n ys zs h e l =
+    put_mid-paste at n m ys zs n e refl (sym l) ∙ paste_all m at zs n (sym l)
+    ∙ ap (λ k. take at m ++ (zs ++ drop (at + k) m)) (sym l) ∙ sym (append_assoc (take at m) zs (drop (at + length zs) m)) ∙ sym (sets-eq zs m at (omega arith))
 
 -- a copy, and those behind it
 pub copies_more : (m p : List ℕ) (at n w : ℕ) (t : List ℕ) → 0 < n → p ≡ sets m at t → length t ≡ w → sets m at (repeated n t) ≡ sets p (at + w) (repeated (n - 1) t)

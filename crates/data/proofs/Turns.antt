@@ -2,31 +2,16 @@
 use Prim.Native.Nat.{ℕ, zero, suc, ◌+◌, ◌-◌, ◌≤◌, ◌<◌}
 use mathlib.Core.List.{List}
 use mathlib.Core.Path.{◌≡◌}
-use mathlib.Core.Bool.{true}
 use native.Mathlib.Nat.{not-suc-le-zero}
 use native.Mathlib.Numerals.{sub-one}
 use native.Mathlib.Omega.{arith}
-use borrow.Author.Tests.{ltb-true}
-use lib.Dec.{eqb, ltb}
-use lib.ListN.{length, get_or}
+use lib.Dec.{eqb}
 use Rattle.values.specs.Tests.{pick}
-use Rattle.letters.specs.Letters.{digit_of}
-use Rattle.letters.proofs.Laws.{inside-digit}
-use Rattle.letters.proofs.Runs.{run_more}
-use Rattle.terms.specs.declared.Quoted.TheVariants.{One, Closed, Nothing}
-use Rattle.terms.specs.Terms.{digit_at, with_digit, quoted_at}
-use Rattle.data.specs.declared.value.Extent.{Extent}
-use Rattle.data.specs.Runs.{digits_end_from, number_from, told}
+use Rattle.terms.specs.declared.Quoted.TheVariants.{One, Closed}
+use Rattle.terms.specs.Terms.{with_digit, quoted_at}
+use Rattle.data.specs.Runs.{number_from, told}
 use Rattle.data.specs.Form.{characters_from}
-
--- DIGITS
-
-pub digit-inside : (base : ℕ) (s : List ℕ) (at : ℕ) → base ≤ 16 → digit_at base s at ≡ true → at < length s
-digit-inside base s at b t = inside-digit s at (omega (arith, ltb-true (digit_of (get_or s at 0)) base t))
-
-pub digits_more : (n base : ℕ) (s : List ℕ) (at : ℕ) → base ≤ 16 → length s ≤ n + at → digit_at base s at ≡ true
-    → digits_end_from n base s at ≡ digits_end_from (n - 1) base s (at + 1)
-digits_more n base s at b l t = run_more (λ d. ltb (digit_of d) base) n s at (omega (arith, digit-inside base s at b t)) t
+use Rattle.std.specs.Prelude.{Ok, Err}
 
 -- NUMBERS
 
@@ -54,18 +39,18 @@ told-fits n = omega arith
 -- CHARACTERS
 
 module _ (s : List ℕ) (at next k : ℕ) where
-  pub characters_more : (n code : ℕ) → 0 < n → quoted_at s at ≡ One code next → characters_from n s at k ≡ characters_from (n - 1) s next (k + 1)
+  pub characters_more : (n code : ℕ) → 0 < n → quoted_at s at ≡ Ok (One code, next) → characters_from n s at k ≡ characters_from (n - 1) s next (k + 1)
   unfolding characters_from
   characters_more zero code h e = absurd (not-suc-le-zero h)
   characters_more (suc n) code h e = rw (e, sub-one)
 
-  pub characters_closed : (n : ℕ) → 0 < n → quoted_at s at ≡ Closed next
-      → characters_from n s at k ≡ pick (eqb k 0) (Extent.Fails next) (Extent.Of (told k) next)
+  pub characters_closed : (n : ℕ) → 0 < n → quoted_at s at ≡ Ok (Closed, next)
+      → characters_from n s at k ≡ pick (eqb k 0) (Err next) (Ok ((told k), next))
   unfolding characters_from
   characters_closed zero h e = absurd (not-suc-le-zero h)
   characters_closed (suc n) h e = rw e
 
-  pub characters_none : (n : ℕ) → 0 < n → quoted_at s at ≡ Nothing next → characters_from n s at k ≡ Extent.Fails next
+  pub characters_none : (n : ℕ) → 0 < n → quoted_at s at ≡ Err next → characters_from n s at k ≡ Err next
   unfolding characters_from
   characters_none zero h e = absurd (not-suc-le-zero h)
   characters_none (suc n) h e = rw e

@@ -1,9 +1,9 @@
 -- R8.7 to R8.9: the text of a constant of type C, X or D.
-use Rattle.std.specs.Prelude.{ℕ, zero, suc, ◌+◌, ◌-◌, ◌*◌, ◌/◌, ◌%◌, List, [], ◌∷◌, ◌++◌, get_or, replicate, eqb}
+use Rattle.std.specs.Prelude.{ℕ, zero, suc, ◌+◌, ◌-◌, ◌*◌, ◌/◌, ◌%◌, List, [], ◌∷◌, ◌++◌, get_or, replicate, eqb, Result, Ok, Err}
 use Rattle.values.specs.Tests.{pick}
 use Rattle.letters.specs.Letters.{digit_of, blank_code}
 use Rattle.terms.specs.declared.Quoted.{Quoted}
-use Rattle.terms.specs.declared.Quoted.TheVariants.{One, Closed, Nothing}
+use Rattle.terms.specs.declared.Quoted.TheVariants.{One, Closed}
 use Rattle.terms.specs.Terms.{quoted_at}
 use Rattle.data.specs.declared.DataType.{DataType}
 use Rattle.data.specs.declared.DataType.TheVariants.{Characters, Hexadecimal, Decimal, Address}
@@ -11,15 +11,15 @@ use Rattle.data.specs.declared.Data.{Data}
 use Rattle.data.specs.Sizes.{half_up}
 
 -- the code of a character inside apostrophes, and the position behind it; a blank, and no step, where there is none
-abbrev pub code_in : Quoted → ℕ
-code_in (One code next) = code
-code_in (Closed next) = blank_code
-code_in (Nothing place) = blank_code
+abbrev pub code_in : Result (Quoted × ℕ) ℕ → ℕ
+code_in (Ok (One code, next)) = code
+code_in (Ok (Closed, next)) = blank_code
+code_in (Err place) = blank_code
 
-abbrev pub next_in : Quoted → ℕ → ℕ
-next_in (One code next) at = next
-next_in (Closed next) at = at
-next_in (Nothing place) at = at
+abbrev pub next_in : Result (Quoted × ℕ) ℕ → ℕ → ℕ
+next_in (Ok (One code, next)) at = next
+next_in (Ok (Closed, next)) at = at
+next_in (Err place) at = at
 
 -- R2.3: the codes of n characters from a position on
 unfoldable pub codes_from : ℕ → List ℕ → ℕ → List ℕ

@@ -9,12 +9,12 @@ pub mod text;
 pub mod value;
 
 ghost use Rattle.std.specs.Prelude.{◌≡◌, ◌+◌, ◌<◌, ◌^◌};
-ghost use Rattle.data.specs.Form.{written_or, constant_length, reserve_length, constant_data, reserve_data, constant_behind, constant_form, reserve_form};
+ghost use Rattle.data.specs.Form.{constant_length, reserve_length, constant_data, reserve_data, data_form};
 
-use head::{Head, HeadForm, WrittenLength};
-use value::Extent;
+use head::{Head, read_head};
+use value::read_value;
 
-#[derive(Clone, Copy)]
+#[derive(Clone, Copy, Debug, PartialEq, Eq)]
 pub enum DataType {
     Characters,
     Hexadecimal,
@@ -23,7 +23,7 @@ pub enum DataType {
 }
 
 // A DC, which makes bytes, or a DS, which leaves room for them.
-#[derive(Clone, Copy)]
+#[derive(Clone, Copy, Debug, PartialEq, Eq)]
 pub enum DataCard {
     Constant,
     Reserve,
@@ -31,7 +31,7 @@ pub enum DataCard {
 
 // What an operand says. `count`: the characters or digits of its value; `value`: where the first of them, or the expression, stands.
 // Copies, length and count are told no further than 65536.
-#[derive(Clone, Copy)]
+#[derive(Clone, Copy, Debug, PartialEq, Eq)]
 pub struct Data {
     pub card: DataCard,
     pub kind: DataType,
@@ -41,41 +41,23 @@ pub struct Data {
     pub value: usize,
 }
 
-// The operand, or the first position at which no operand of this form could go on.
-#[derive(Clone, Copy)]
-pub enum DataForm {
-    Fails(usize),
-    Of(Data),
-}
-
-fn written_or(w: WrittenLength, other: u32) -> u32
-    ensures { result ≡ written_or w other }
-{
-    match w {
-        WrittenLength::As(m) => m,
-        WrittenLength::Absent => other,
-    }
-}
-
+// The length of a DC where it is absent.
 fn constant_length(kind: DataType, count: u32) -> u32
     ensures { result ≡ constant_length kind count }
 {
     match kind {
-        DataType::Characters => count,
-        DataType::Hexadecimal => sizes::half_up(count),
-        DataType::Decimal => count,
         DataType::Address => 2,
+        _ => sizes::needed(kind, count),
     }
 }
 
+// The length of a DS where it is absent.
 fn reserve_length(kind: DataType) -> u32
     ensures { result ≡ reserve_length kind }
 {
     match kind {
-        DataType::Characters => 1,
-        DataType::Hexadecimal => 1,
-        DataType::Decimal => 1,
         DataType::Address => 2,
+        _ => 1,
     }
 }
 
@@ -83,13 +65,11 @@ fn constant_data(h: Head, count: u32) -> Data
     requires { h.next + 1 < 2 ^ 64 }
     ensures { result ≡ constant_data h count }
 {
-    let kind = h.kind;
-    let written = h.length;
     Data {
         card: DataCard::Constant,
-        kind,
+        kind: h.kind,
         copies: h.copies,
-        length: written_or(written, constant_length(kind, count)),
+        length: h.length.unwrap_or(constant_length(h.kind, count)),
         count,
         value: h.next + 1,
     }
@@ -98,62 +78,28 @@ fn constant_data(h: Head, count: u32) -> Data
 fn reserve_data(h: Head) -> Data
     ensures { result ≡ reserve_data h }
 {
-    let kind = h.kind;
-    let written = h.length;
     Data {
         card: DataCard::Reserve,
-        kind,
+        kind: h.kind,
         copies: h.copies,
-        length: written_or(written, reserve_length(kind)),
+        length: h.length.unwrap_or(reserve_length(h.kind)),
         count: 0,
         value: h.next,
     }
 }
 
-// The value behind copies, type and length, and nothing behind it.
-#[tactic(auto, unfolding(crate::specs::Form::constant_behind))]
-fn constant_behind(o: &[u8], h: Head) -> DataForm
-    ensures { result ≡ constant_behind o.now h }
+// The operand of a data card: a DC has a value, a DS has none; and nothing stands behind it.
+#[tactic(auto, unfolding(crate::specs::Form::constant_form, crate::specs::Form::constant_behind, crate::specs::Form::reserve_form), using(crate::proofs::Within::value_span))]
+pub fn data_form(card: DataCard, o: &[u8]) -> Result<Data, usize>
+    ensures { result ≡ data_form card o.now }
 {
-    let kind = h.kind;
-    let next = h.next;
-    match value::read_value(o, kind, next) {
-        Extent::Fails(at) => DataForm::Fails(at),
-        Extent::Of(count, end) => {
-            if end == o.len() {
-                DataForm::Of(constant_data(h, count))
-            } else {
-                DataForm::Fails(end)
-            }
+    let head = read_head(o)?;
+    let (data, end) = match card {
+        DataCard::Constant => {
+            let (count, end) = read_value(o, head.kind, head.next)?;
+            (constant_data(head, count), end)
         }
-    }
-}
-
-// A DC operand.
-#[tactic(auto, unfolding(crate::specs::Form::constant_form))]
-pub fn constant_form(o: &[u8]) -> DataForm
-    ensures { result ≡ constant_form o.now }
-{
-    match head::read_head(o) {
-        HeadForm::Fails(at) => DataForm::Fails(at),
-        HeadForm::Of(h) => constant_behind(o, h),
-    }
-}
-
-// A DS operand: it has no value.
-#[tactic(auto, unfolding(crate::specs::Form::reserve_form))]
-pub fn reserve_form(o: &[u8]) -> DataForm
-    ensures { result ≡ reserve_form o.now }
-{
-    match head::read_head(o) {
-        HeadForm::Fails(at) => DataForm::Fails(at),
-        HeadForm::Of(h) => {
-            let next = h.next;
-            if next == o.len() {
-                DataForm::Of(reserve_data(h))
-            } else {
-                DataForm::Fails(next)
-            }
-        }
-    }
+        DataCard::Reserve => (reserve_data(head), head.next),
+    };
+    if end == o.len() { Ok(data) } else { Err(end) }
 }

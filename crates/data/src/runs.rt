@@ -9,11 +9,8 @@ pub fn digits_end(s: &[u8], at: usize, base: u8) -> usize
     requires { base ≤ 16 }
     ensures { result ≡ digits_end base s.now at }
 {
-    let mut i = at;
-    while letters::digit_of(byte_at(s, i)) < base {
-        i += 1;
-    }
-    i
+    let is_digit = |b: &&u8| letters::digit_of(**b) < base;
+    at + s.iter().skip(at).take_while(is_digit).count()
 }
 
 // A number, told no further than 65536.
@@ -21,7 +18,7 @@ pub fn digits_end(s: &[u8], at: usize, base: u8) -> usize
 pub fn tell(n: usize) -> u32
     ensures { result ≡ told n }
 {
-    if n <= 65536 { n as u32 } else { 65536 }
+    n.min(65536) as u32
 }
 
 // A decimal digit behind a number.
@@ -30,8 +27,7 @@ fn append_digit(v: u32, digit: u8) -> u32
     requires { (v ≤ 65536) × (digit ≤ 16) }
     ensures { result ≡ told (v * 10 + digit) }
 {
-    let more = v * 10 + digit as u32;
-    if more <= 65536 { more } else { 65536 }
+    (v * 10 + u32::from(digit)).min(65536)
 }
 
 // The number that the digits between two positions write, told no further than 65536.
@@ -40,10 +36,8 @@ pub fn number_in(s: &[u8], at: usize, end: usize) -> u32
     ensures { result ≡ told (number_from (end - at) s.now at 0) }
 {
     let mut v: u32 = 0;
-    let mut i = at;
-    while i < end {
+    for i in at..end {
         v = append_digit(v, letters::digit_of(byte_at(s, i)));
-        i += 1;
     }
     v
 }

@@ -1,17 +1,17 @@
 // The size of a data card's field, and refusal 21.
 ghost use Rattle.std.specs.Prelude.{◌≡◌};
-ghost use Rattle.data.specs.Sizes.{half_up, longest, length_fits, bytes_needed, data_size, constant_no, reserve_no, data_no};
+ghost use Rattle.values.specs.Refusals.{number_in};
+ghost use Rattle.data.specs.Sizes.{half_up, longest, length_fits, needed, bytes_needed, data_size, constant_no, reserve_no, data_no};
 
 use crate::{Data, DataCard, DataType};
+use values::refusals::Refusal;
 
 fn longest_of(kind: DataType) -> u32
     ensures { result ≡ longest kind }
 {
     match kind {
-        DataType::Characters => 256,
-        DataType::Hexadecimal => 256,
-        DataType::Decimal => 256,
         DataType::Address => 3,
+        _ => 256,
     }
 }
 
@@ -19,31 +19,31 @@ fn longest_of(kind: DataType) -> u32
 pub fn length_fits(d: Data) -> bool
     ensures { result ≡ length_fits d }
 {
-    let kind = d.kind;
-    if d.length < 1 {
-        return false;
-    }
-    d.length <= longest_of(kind)
+    1 <= d.length && d.length <= longest_of(d.kind)
 }
 
 // Half of a number, rounded up.
 pub fn half_up(n: u32) -> u32
     ensures { result ≡ half_up n }
 {
-    n / 2 + n % 2
+    n.div_ceil(2)
 }
 
-// The bytes that the value needs.
+// The bytes that a value of so many characters or digits needs.
+pub fn needed(kind: DataType, count: u32) -> u32
+    ensures { result ≡ needed kind count }
+{
+    match kind {
+        DataType::Hexadecimal => half_up(count),
+        DataType::Address => 0,
+        _ => count,
+    }
+}
+
 pub fn bytes_needed(d: Data) -> u32
     ensures { result ≡ bytes_needed d }
 {
-    let kind = d.kind;
-    match kind {
-        DataType::Characters => d.count,
-        DataType::Hexadecimal => half_up(d.count),
-        DataType::Decimal => d.count,
-        DataType::Address => 0,
-    }
+    needed(d.kind, d.count)
 }
 
 // The bytes of all copies.
@@ -54,47 +54,36 @@ pub fn data_size(d: Data) -> usize
     (d.copies as usize) * (d.length as usize)
 }
 
-// Refusal 21 of a DC card, or 0.
+// 21 of a DC card.
 #[tactic(auto, unfolding(crate::specs::Sizes::constant_no))]
-fn constant_no(d: Data) -> u8
-    ensures { result ≡ constant_no d }
+fn check_constant(d: Data) -> Result<(), Refusal>
+    ensures { number_in result ≡ constant_no d }
 {
-    if !length_fits(d) {
-        return 21;
+    if length_fits(d) && d.copies <= 256 && bytes_needed(d) <= d.length && data_size(d) <= 256 {
+        Ok(())
+    } else {
+        Err(Refusal::BadSize)
     }
-    if 256 < d.copies {
-        return 21;
-    }
-    if d.length < bytes_needed(d) {
-        return 21;
-    }
-    if 256 < data_size(d) {
-        return 21;
-    }
-    0
 }
 
-// Refusal 21 of a DS card, or 0.
+// 21 of a DS card.
 #[tactic(auto, unfolding(crate::specs::Sizes::reserve_no))]
-fn reserve_no(d: Data) -> u8
-    ensures { result ≡ reserve_no d }
+fn check_reserve(d: Data) -> Result<(), Refusal>
+    ensures { number_in result ≡ reserve_no d }
 {
-    if !length_fits(d) {
-        return 21;
+    if length_fits(d) && d.copies <= 65535 {
+        Ok(())
+    } else {
+        Err(Refusal::BadSize)
     }
-    if 65535 < d.copies {
-        return 21;
-    }
-    0
 }
 
-// Refusal 21 of a data card, or 0.
-pub fn data_no(d: Data) -> u8
-    ensures { result ≡ data_no d }
+// 21 of a data card.
+pub fn check_data(d: Data) -> Result<(), Refusal>
+    ensures { number_in result ≡ data_no d }
 {
-    let card = d.card;
-    match card {
-        DataCard::Constant => constant_no(d),
-        DataCard::Reserve => reserve_no(d),
+    match d.card {
+        DataCard::Constant => check_constant(d),
+        DataCard::Reserve => check_reserve(d),
     }
 }

@@ -2,30 +2,28 @@
 ghost use Rattle.std.specs.Prelude.{◌≡◌, ◌+◌, ◌*◌, ◌≤◌, ◌<◌, ◌^◌, length, replicate};
 ghost use Rattle.std.proofs.lemmas.List.Edits.{sets};
 ghost use Rattle.data.specs.Sizes.{half_up, bytes_needed, data_size, constant_no};
-ghost use Rattle.data.specs.Text.{code_in, next_in, codes_from, hex_at, pair_at, pairs_from, hex_bytes, characters_text, hexadecimal_text, decimal_text, copy_text, constant_text};
+ghost use Rattle.data.specs.Text.{code_in, next_in, codes_from, hex_at, pair_at, pairs_from, hex_bytes, copy_text, constant_text};
 
-use crate::sizes::half_up;
+use crate::sizes::bytes_needed;
 use crate::{Data, DataType};
 use letters::{BLANK_CODE, byte_at};
 use terms::{Quoted, quoted_at};
 
-fn code_in(q: Quoted) -> u8
+fn code_in(q: Result<(Quoted, usize), usize>) -> u8
     ensures { result ≡ code_in q }
 {
     match q {
-        Quoted::One(code, _) => code,
-        Quoted::Closed(_) => BLANK_CODE,
-        Quoted::Nothing(_) => BLANK_CODE,
+        Ok((Quoted::One(code), _)) => code,
+        _ => BLANK_CODE,
     }
 }
 
-fn next_in(q: Quoted, at: usize) -> usize
+fn next_in(q: Result<(Quoted, usize), usize>, at: usize) -> usize
     ensures { result ≡ next_in q at }
 {
     match q {
-        Quoted::One(_, next) => next,
-        Quoted::Closed(_) => at,
-        Quoted::Nothing(_) => at,
+        Ok((Quoted::One(_), next)) => next,
+        _ => at,
     }
 }
 
@@ -36,13 +34,10 @@ fn put_codes(o: &[u8], at: usize, n: usize, m: &mut [u8], to: usize)
     ensures { m.new ≡ sets m.old to (codes_from n o.now at) }
 {
     let mut p = at;
-    let mut i = 0;
-    while i < n {
+    for i in 0..n {
         let q = quoted_at(o, p);
-        let code = code_in(q);
+        m[to + i] = code_in(q);
         p = next_in(q, p);
-        m[to + i] = code;
-        i += 1;
     }
 }
 
@@ -66,13 +61,8 @@ fn put_pairs(o: &[u8], at: usize, n: usize, m: &mut [u8], to: usize)
     requires { (at + 2 * n < 2 ^ 64) × (to + n ≤ length m.old) }
     ensures { m.new ≡ sets m.old to (pairs_from n o.now at) }
 {
-    let mut p = at;
-    let mut i = 0;
-    while i < n {
-        let pair = pair_at(o, p);
-        p += 2;
-        m[to + i] = pair;
-        i += 1;
+    for i in 0..n {
+        m[to + i] = pair_at(o, at + 2 * i);
     }
 }
 
@@ -85,8 +75,7 @@ fn put_hex(o: &[u8], at: usize, count: usize, m: &mut [u8], to: usize)
     if count % 2 == 0 {
         put_pairs(o, at, count / 2, m, to);
     } else {
-        let first = hex_at(o, at);
-        m[to] = first;
+        m[to] = hex_at(o, at);
         put_pairs(o, at + 1, count / 2, m, to + 1);
     }
 }
@@ -96,64 +85,31 @@ fn put_fill(m: &mut [u8], to: usize, n: usize, b: u8)
     requires { to + n ≤ length m.old }
     ensures { m.new ≡ sets m.old to (replicate n b) }
 {
-    let mut i = 0;
-    while i < n {
-        m[to + i] = b;
-        i += 1;
-    }
+    m[to..to + n].fill(b);
 }
 
-// Blanks on the right.
-fn put_characters(o: &[u8], d: Data, m: &mut [u8], to: usize)
-    requires { (d.count ≤ d.length) × (to + d.length ≤ length m.old) }
-    ensures { m.new ≡ sets m.old to (characters_text o.now d) }
-{
-    let at = d.value;
-    let count = d.count as usize;
-    let rest = d.length as usize - count;
-    let behind = to + count;
-    put_codes(o, at, count, m, to);
-    put_fill(m, behind, rest, BLANK_CODE);
-}
-
-// Zeros on the left.
-fn put_hexadecimal(o: &[u8], d: Data, m: &mut [u8], to: usize)
-    requires { (half_up d.count ≤ d.length) × (to + d.length ≤ length m.old) × (d.value + d.count ≤ length o.now) }
-    ensures { m.new ≡ sets m.old to (hexadecimal_text o.now d) }
-{
-    let at = d.value;
-    let count = d.count as usize;
-    let needed = half_up(d.count) as usize;
-    let rest = d.length as usize - needed;
-    let digits = to + rest;
-    put_fill(m, to, rest, 0);
-    put_hex(o, at, count, m, digits);
-}
-
-// F0 on the left.
-fn put_decimal(o: &[u8], d: Data, m: &mut [u8], to: usize)
-    requires { (d.count ≤ d.length) × (to + d.length ≤ length m.old) }
-    ensures { m.new ≡ sets m.old to (decimal_text o.now d) }
-{
-    let at = d.value;
-    let count = d.count as usize;
-    let rest = d.length as usize - count;
-    let behind = to + rest;
-    put_fill(m, to, rest, 0xF0);
-    put_codes(o, at, count, m, behind);
-}
-
-// One copy.
+// One copy: characters have blanks on their right, digits zeros or F0 on their left.
+#[tactic(auto, unfolding(crate::specs::Text::characters_text, crate::specs::Text::hexadecimal_text, crate::specs::Text::decimal_text))]
 fn put_copy(o: &[u8], d: Data, m: &mut [u8], to: usize)
     requires { (bytes_needed d ≤ d.length) × (to + d.length ≤ length m.old) × (d.value + d.count ≤ length o.now) }
     ensures { m.new ≡ sets m.old to (copy_text o.now d) }
 {
-    let kind = d.kind;
-    match kind {
-        DataType::Characters => put_characters(o, d, m, to),
-        DataType::Hexadecimal => put_hexadecimal(o, d, m, to),
-        DataType::Decimal => put_decimal(o, d, m, to),
-        DataType::Address => put_fill(m, to, d.length as usize, 0),
+    let needed = bytes_needed(d) as usize;
+    let rest = d.length as usize - needed;
+    match d.kind {
+        DataType::Characters => {
+            put_codes(o, d.value, needed, m, to);
+            put_fill(m, to + needed, rest, BLANK_CODE);
+        }
+        DataType::Hexadecimal => {
+            put_fill(m, to, rest, 0);
+            put_hex(o, d.value, d.count as usize, m, to + rest);
+        }
+        DataType::Decimal => {
+            put_fill(m, to, rest, 0xF0);
+            put_codes(o, d.value, needed, m, to + rest);
+        }
+        DataType::Address => put_fill(m, to, rest, 0),
     }
 }
 
@@ -164,11 +120,9 @@ pub fn put_constant(o: &[u8], d: Data, m: &mut [u8], to: usize)
     ensures { m.new ≡ sets m.old to (constant_text o.now d) }
 {
     let size = d.length as usize;
-    let mut left = d.copies;
     let mut at = to;
-    while 0 < left {
+    for _ in 0..d.copies {
         put_copy(o, d, m, at);
         at += size;
-        left -= 1;
     }
 }

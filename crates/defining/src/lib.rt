@@ -16,34 +16,27 @@ use names::{Name, define};
 use operations::Operation;
 use operations::traits::Role;
 use passes::start_or;
-use values::{MaybeValue, Relocatable, Value};
-
-fn one_less(n: usize) -> usize
-    ensures { result ≡ n - 1 }
-{
-    if n == 0 { 0 } else { n - 1 }
-}
+use values::{Relocatable, Value};
 
 // The last byte of a field of m bytes.
 fn last_byte(counter: u32, m: u32) -> usize
     ensures { result ≡ counter + m - 1 }
 {
-    let long = m as usize;
-    one_less(counter as usize + long)
+    (counter as usize + m as usize).saturating_sub(1)
 }
 
 // The place that a card's name stands for: the last byte of the first copy on DC and DS, else the first byte.
-fn place_named(counter: u32, x: Shape) -> usize
+fn place_named(counter: u32, x: Result<Shape, usize>) -> usize
     ensures { result ≡ place_named counter x }
 {
     match x {
-        Shape::Data(d) => last_byte(counter, d.length),
+        Ok(Shape::Data(d)) => last_byte(counter, d.length),
         _ => counter as usize,
     }
 }
 
 // The place that a line's name stands for, before any limit; EQU's stands for none.
-pub(crate) fn place_by(role: Role, counter: u32, x: Shape) -> usize
+pub(crate) fn place_by(role: Role, counter: u32, x: Result<Shape, usize>) -> usize
     ensures { result ≡ place_by role counter x }
 {
     match role {
@@ -54,31 +47,30 @@ pub(crate) fn place_by(role: Role, counter: u32, x: Shape) -> usize
 }
 
 // The value of a line's name, where it is in range; v is the value of its only expression.
-fn name_value(role: Role, v: MaybeValue, counter: u32, l: Line) -> MaybeValue
+fn name_value(role: Role, v: Option<Value>, counter: u32, l: Line) -> Option<Value>
     requires { over (name_value_by role v counter l) ≡ 0 }
     ensures { result ≡ name_value_by role v counter l }
 {
-    let shape = l.shape;
     match role {
         Role::Equates => v,
         _ => {
-            let place = place_by(role, counter, shape) as u16;
-            MaybeValue::Is(Value::Relocatable(Relocatable(place)))
+            let place = place_by(role, counter, l.shape) as u16;
+            Some(Value::Relocatable(Relocatable(place)))
         }
     }
 }
 
 // The length of a field, or an instruction's.
-fn field_length(op: Operation, x: Shape) -> usize
+fn field_length(op: Operation, x: Result<Shape, usize>) -> usize
     ensures { result ≡ field_length op x }
 {
     match x {
-        Shape::Data(d) => d.length as usize,
+        Ok(Shape::Data(d)) => d.length as usize,
         _ => size_of(op, x),
     }
 }
 
-fn name_length(role: Role, op: Operation, x: Shape) -> usize
+fn name_length(role: Role, op: Operation, x: Result<Shape, usize>) -> usize
     ensures { result ≡ name_length_by role op x }
 {
     match role {
@@ -90,7 +82,7 @@ fn name_length(role: Role, op: Operation, x: Shape) -> usize
 // A line's name goes into the table, where it has one; how many names there are then.
 pub fn enter(
     role: Role,
-    v: MaybeValue,
+    v: Option<Value>,
     counter: u32,
     l: Line,
     table: &mut [u8],
@@ -101,26 +93,21 @@ pub fn enter(
     ensures table_after { (names_in result table.new ≡ entered_by (names_in count table.old) role v counter l) × (result ≤ 512) }
     ensures table_unchanged { drop 8192 table.new ≡ drop 8192 table.old }
 {
-    let number = l.name;
-    if number == 0 {
+    let Some(number) = l.name else {
         return count;
-    }
-    let operation = l.operation;
-    let shape = l.shape;
-    let length = name_length(role, operation, shape) as u16;
-    match name_value(role, v, counter, l) {
-        MaybeValue::Nothing => count,
-        MaybeValue::Is(value) => {
-            define(
-                table,
-                count,
-                Name {
-                    number: number,
-                    value: value,
-                    length: length,
-                },
-            );
-            count + 1
-        }
-    }
+    };
+    let Some(value) = name_value(role, v, counter, l) else {
+        return count;
+    };
+    let length = name_length(role, l.operation, l.shape) as u16;
+    define(
+        table,
+        count,
+        Name {
+            number,
+            value,
+            length,
+        },
+    );
+    count + 1
 }

@@ -1,140 +1,114 @@
-// Pass one's rules, one by one; 0 is no refusal.
-ghost use Rattle.std.specs.Prelude.{◌≡◌, true, ◌*◌, ◌≤◌, length};
-ghost use Rattle.names.specs.Names.{ascending, name_refusal};
-ghost use Rattle.names.specs.Table.{names_in};
-ghost use Rattle.passes.specs.Cards.{name_value_by};
-ghost use Rattle.passes.specs.One.{after_end_no, again_no, missing_no, start_no, most_names, if_named, m_fits, amount_over, over, sizes_no, room_no};
+// Pass one's rules, one by one.
+ghost use Rattle.std.specs.Prelude.{◌≡◌};
+ghost use Rattle.values.specs.Refusals.{number_in};
+ghost use Rattle.names.specs.Names.{name_refusal};
+ghost use Rattle.passes.specs.One.{after_end_no, start_no, most_names, if_named, m_fits, amount_over, over, sizes_no, room_no};
 ghost use Rattle.defining.specs.Entering.{over_by};
 
 use crate::place_by;
-use data::sizes::{data_no, length_fits};
+use data::sizes::{check_data, length_fits};
 use forms::Shape;
 use lines::Line;
-use names::name_refusal;
+use names::lookup::Names;
 use operations::traits::Role;
 use passes::Phase;
-use values::words::wide16;
-use values::{MaybeValue, amount_of};
+use values::Value;
+use values::refusals::Refusal;
+
+// How many names there may be.
+const MOST_NAMES: usize = 512;
 
 // 9: a card after END.
-pub fn after_end_no(p: Phase) -> u8
-    ensures { result ≡ after_end_no p }
+pub fn check_not_ended(p: Phase) -> Result<(), Refusal>
+    ensures { number_in result ≡ after_end_no p }
 {
-    match p {
-        Phase::Before => 0,
-        Phase::Within => 0,
-        Phase::Ended => 9,
-    }
-}
-
-fn again_no(r: Role) -> u8
-    ensures { result ≡ again_no r }
-{
-    match r {
-        Role::Starts => 13,
-        _ => 0,
-    }
-}
-
-fn missing_no(r: Role) -> u8
-    ensures { result ≡ missing_no r }
-{
-    match r {
-        Role::Starts => 0,
-        _ => 13,
+    if p == Phase::Ended {
+        Err(Refusal::MisplacedEnd)
+    } else {
+        Ok(())
     }
 }
 
 // 13: START missing first, or again.
-pub fn start_no(p: Phase, r: Role) -> u8
-    ensures { result ≡ start_no p r }
+pub fn check_start(p: Phase, r: Role) -> Result<(), Refusal>
+    ensures { number_in result ≡ start_no p r }
 {
-    match p {
-        Phase::Before => missing_no(r),
-        Phase::Within => again_no(r),
-        Phase::Ended => again_no(r),
+    if (p == Phase::Before) == (r == Role::Starts) {
+        Ok(())
+    } else {
+        Err(Refusal::MisplacedStart)
     }
 }
 
 // 16 and 17 of a line's name.
-pub fn new_no(name: u64, table: &[u8], count: usize) -> u8
-    requires { (16 * count ≤ length table.now) × (ascending (names_in count table.now) ≡ true) }
-    ensures { result ≡ if_named name (name_refusal most_names (names_in count table.now) name) }
+pub fn check_new(name: Option<u64>, names: &Names) -> Result<(), Refusal>
+    ensures { number_in result ≡ if_named name (name_refusal most_names names.now) }
 {
-    if name == 0 {
-        return 0;
+    match name {
+        Some(number) => names.check_new(MOST_NAMES, number),
+        None => Ok(()),
     }
-    name_refusal(table, count, 512, name)
 }
 
-fn m_fits(x: Shape) -> bool
-    ensures { result ≡ m_fits x }
+fn m_fits(shape: Result<Shape, usize>) -> bool
+    ensures { result ≡ m_fits shape }
 {
-    match x {
-        Shape::Data(d) => length_fits(d),
+    match shape {
+        Ok(Shape::Data(d)) => length_fits(d),
         _ => true,
     }
 }
 
-fn amount_over(n: usize) -> u8
-    ensures { result ≡ amount_over n }
+fn check_amount(n: usize) -> Result<(), Refusal>
+    ensures { number_in result ≡ amount_over n }
 {
-    if n <= 65535 { 0 } else { 20 }
-}
-
-fn value_over(v: MaybeValue) -> u8
-    ensures { result ≡ over v }
-{
-    match v {
-        MaybeValue::Is(x) => amount_over(wide16(amount_of(x))),
-        MaybeValue::Nothing => 0,
+    if n <= 65535 {
+        Ok(())
+    } else {
+        Err(Refusal::OutOfRange)
     }
 }
 
-fn over_by(r: Role, v: MaybeValue, counter: u32, l: Line) -> u8
-    ensures { result ≡ over (name_value_by r v counter l) }
+fn check_equated(v: Option<Value>) -> Result<(), Refusal>
+    ensures { number_in result ≡ over v }
 {
-    let shape = l.shape;
-    match r {
-        Role::Equates => value_over(v),
-        _ => amount_over(place_by(r, counter, shape)),
+    match v {
+        Some(x) => check_amount(usize::from(x.amount())),
+        None => Ok(()),
     }
 }
 
 // 20 of a name whose value is over 65535, not where m is out of range.
-pub fn over_no(r: Role, v: MaybeValue, counter: u32, l: Line) -> u8
-    ensures { result ≡ if_named l.name (over_by r v counter l) }
+pub fn check_over(r: Role, v: Option<Value>, counter: u32, l: Line) -> Result<(), Refusal>
+    ensures { number_in result ≡ if_named l.name (λ name. over_by r v counter l) }
 {
-    let shape = l.shape;
-    if l.name == 0 {
-        return 0;
+    if l.name.is_none() || !m_fits(l.shape) {
+        return Ok(());
     }
-    if !m_fits(shape) {
-        return 0;
+    if r == Role::Equates {
+        check_equated(v)
+    } else {
+        check_amount(place_by(r, counter, l.shape))
     }
-    over_by(r, v, counter, l)
 }
 
 // 21 of DC and DS.
-pub fn sizes_no(x: Shape) -> u8
-    ensures { result ≡ sizes_no x }
+pub fn check_sizes(shape: Result<Shape, usize>) -> Result<(), Refusal>
+    ensures { number_in result ≡ sizes_no shape }
 {
-    match x {
-        Shape::Data(d) => data_no(d),
-        _ => 0,
+    match shape {
+        Ok(Shape::Data(d)) => check_data(d),
+        _ => Ok(()),
     }
 }
 
 // 24: the counter past 65536.
-pub fn room_no(counter: u32, size: usize) -> u8
-    ensures { result ≡ room_no counter size }
+pub fn check_room(counter: u32, size: usize) -> Result<(), Refusal>
+    ensures { number_in result ≡ room_no counter size }
 {
-    if 65536 < size {
-        return 24;
-    }
-    if counter as usize + size <= 65536 {
-        0
+    if size <= 65536 && counter as usize + size <= 65536 {
+        Ok(())
     } else {
-        24
+        Err(Refusal::NoRoom)
     }
 }

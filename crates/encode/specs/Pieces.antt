@@ -5,7 +5,6 @@ use Rattle.values.specs.Words.{two_bytes}
 use Rattle.values.specs.declared.Value.{Value}
 use Rattle.values.specs.declared.Value.TheVariants.{Absolute, Relocatable}
 use Rattle.values.specs.Values.{amount_of}
-use Rattle.operations.specs.declared.Operation.{Operation}
 use Rattle.operations.specs.declared.Operation.TheVariants.{Jump}
 use Rattle.operations.specs.Codes.{operation_byte}
 use Rattle.places.specs.declared.Operand.{Operand}
@@ -78,4 +77,4 @@ pieces_of (Statement.TwoAddresses op q a b) = plain (operation_byte op (mode_of 
 pieces_of (Statement.OneAddress op q a) = plain (operation_byte op (mode_of a) (mode_of a)) ∷ plain q ∷ operand_pieces a
 pieces_of (Statement.Jump q byte) = plain (operation_byte Jump 0 0) ∷ plain q ∷ plain byte ∷ []
 pieces_of (Statement.AddressConstants copies length v) = copied copies (address_pieces length v)
-pieces_of Statement.None = []
+pieces_of Statement.NoBytes = []

@@ -1,7 +1,7 @@
 // A statement's bytes and the offsets of its relocatable fields.
 #![tactic(auto)]
 
-ghost use Rattle.std.specs.Prelude.{◌≡◌, ◌∷◌, [], ◌++◌, ◌+◌, ◌*◌, ◌≤◌, length};
+ghost use Rattle.std.specs.Prelude.{◌≡◌, ◌∷◌, ◌++◌, ◌+◌, ◌*◌, ◌≤◌, length};
 ghost use Rattle.std.proofs.lemmas.List.Edits.{sets};
 ghost use Rattle.operations.specs.Codes.{operation_byte};
 ghost use Rattle.places.specs.Places.{operand_size};
@@ -13,8 +13,8 @@ use operations::codes::operation_byte;
 use operations::traits::fixed_size;
 use places::{Operand, operand_size};
 use statements::Statement;
-use values::words::put_word;
-use values::{Value, amount_of};
+use values::Value;
+use values::words::{put_bytes, put_word};
 
 fn mode_of(x: Operand) -> u8
     ensures { result ≡ mode_of x }
@@ -31,31 +31,15 @@ fn mode_of(x: Operand) -> u8
 fn constant_size(size: u32) -> usize
     ensures { (result ≡ constant_size size) × (result ≤ 3) }
 {
-    if size == 1 {
-        return 1;
+    match size {
+        1 => 1,
+        3 => 3,
+        _ => 2,
     }
-    if size == 3 {
-        return 3;
-    }
-    2
-}
-
-// The bytes of all copies.
-fn constants_size(copies: u32, size: u32) -> usize
-    ensures { result ≡ copies * constant_size size }
-{
-    let n = copies as usize;
-    if size == 1 {
-        return n;
-    }
-    if size == 3 {
-        return 3 * n;
-    }
-    2 * n
 }
 
 // How many bytes a statement makes.
-#[tactic(auto, unfolding(crate::specs::Pieces::text_of, crate::specs::Pieces::pieces_of))]
+#[tactic(auto, unfolding(crate::specs::Pieces::text_of, crate::specs::Pieces::pieces_of), using(crate::proofs::Steps::constants_size_lem))]
 pub fn text_size(st: Statement) -> usize
     ensures { result ≡ length (text_of (pieces_of st)) }
 {
@@ -63,8 +47,8 @@ pub fn text_size(st: Statement) -> usize
         Statement::TwoAddresses(_, _, a, b) => 2 + operand_size(a) + operand_size(b),
         Statement::OneAddress(_, _, a) => 2 + operand_size(a),
         Statement::Jump(_, _) => fixed_size(Operation::Jump),
-        Statement::AddressConstants(copies, size, _) => constants_size(copies, size),
-        Statement::None => 0,
+        Statement::AddressConstants(copies, size, _) => copies as usize * constant_size(size),
+        Statement::NoBytes => 0,
     }
 }
 
@@ -93,16 +77,14 @@ fn operand_count(x: Operand) -> usize
 fn constant_count(copies: u32, size: u32, v: Value) -> usize
     ensures { result ≡ constant_count copies size v }
 {
-    if size == 1 {
-        return 0;
+    match size {
+        1 | 3 => 0,
+        _ => value_count(v, copies as usize),
     }
-    if size == 3 {
-        return 0;
-    }
-    value_count(v, copies as usize)
 }
 
 // How many relocatable fields a statement has.
+#[tactic(auto, unfolding(crate::specs::Pieces::offsets_from, crate::specs::Pieces::pieces_of), using(crate::proofs::Steps::addresses_count))]
 pub fn field_count(st: Statement) -> usize
     ensures { result ≡ length (fields_of (pieces_of st)) }
 {
@@ -122,20 +104,11 @@ fn put_operand(x: Operand, m: &mut [u8], to: usize)
     ensures { m.new ≡ sets m.old to (text_of (operand_pieces x)) }
 {
     match x {
-        Operand::Direct(v) => put_word(m, to, amount_of(v)),
+        Operand::Direct(v) => put_word(m, to, v.amount()),
         Operand::Indexed(_, _, displacement) => {
             m[to] = displacement;
         }
     }
-}
-
-// The operation byte and Q.
-fn put_codes(operation: u8, q: u8, m: &mut [u8], to: usize)
-    requires { to + 2 ≤ length m.old }
-    ensures { m.new ≡ sets m.old to (operation ∷ q ∷ []) }
-{
-    m[to] = operation;
-    m[to + 1] = q;
 }
 
 #[tactic(auto, unfolding(crate::specs::Pieces::text_of))]
@@ -143,7 +116,7 @@ fn put_two(op: Operation, q: u8, a: Operand, b: Operand, m: &mut [u8], to: usize
     requires { to + (2 + operand_size a + operand_size b) ≤ length m.old }
     ensures { m.new ≡ sets m.old to (operation_byte op (mode_of a) (mode_of b) ∷ q ∷ (text_of (operand_pieces a) ++ text_of (operand_pieces b))) }
 {
-    put_codes(operation_byte(op, mode_of(a), mode_of(b)), q, m, to);
+    put_bytes(m, to, &[operation_byte(op, mode_of(a), mode_of(b)), q]);
     put_operand(a, m, to + 2);
     put_operand(b, m, to + 2 + operand_size(a));
 }
@@ -155,17 +128,8 @@ fn put_one(op: Operation, q: u8, a: Operand, m: &mut [u8], to: usize)
     ensures { m.new ≡ sets m.old to (operation_byte op (mode_of a) (mode_of a) ∷ q ∷ text_of (operand_pieces a)) }
 {
     let mode = mode_of(a);
-    put_codes(operation_byte(op, mode, mode), q, m, to);
+    put_bytes(m, to, &[operation_byte(op, mode, mode), q]);
     put_operand(a, m, to + 2);
-}
-
-fn put_three(a: u8, b: u8, c: u8, m: &mut [u8], to: usize)
-    requires { to + 3 ≤ length m.old }
-    ensures { m.new ≡ sets m.old to (a ∷ b ∷ c ∷ []) }
-{
-    m[to] = a;
-    m[to + 1] = b;
-    m[to + 2] = c;
 }
 
 // One copy of an address constant.
@@ -174,33 +138,26 @@ fn put_address(size: u32, v: Value, m: &mut [u8], to: usize)
     requires { to + constant_size size ≤ length m.old }
     ensures { m.new ≡ sets m.old to (text_of (address_pieces size v)) }
 {
-    let amount = amount_of(v);
-    let high = (amount / 256) as u8;
-    let low = (amount % 256) as u8;
-    if size == 1 {
-        m[to] = low;
-        return;
+    let amount = v.amount();
+    let [high, low] = amount.to_be_bytes();
+    match size {
+        1 => m[to] = low,
+        3 => put_bytes(m, to, &[0, high, low]),
+        _ => put_word(m, to, amount),
     }
-    if size == 3 {
-        put_three(0, high, low, m, to);
-        return;
-    }
-    put_word(m, to, amount);
 }
 
 // All copies.
-#[tactic(auto, unfolding(crate::specs::Pieces::text_of, crate::specs::Pieces::copied, crate::specs::Pieces::address_pieces))]
+#[tactic(auto, using(crate::proofs::Steps::copies_room, crate::proofs::Steps::copies_more, crate::proofs::Steps::copies_done))]
 fn put_addresses(copies: u32, size: u32, v: Value, m: &mut [u8], to: usize)
     requires { to + length (text_of (copied copies (address_pieces size v))) ≤ length m.old }
     ensures { m.new ≡ sets m.old to (text_of (copied copies (address_pieces size v))) }
 {
     let each = constant_size(size);
-    let mut left = copies;
     let mut at = to;
-    while 0 < left {
+    for _ in 0..copies {
         put_address(size, v, m, at);
         at += each;
-        left -= 1;
     }
 }
 
@@ -213,15 +170,13 @@ pub fn put_text(st: Statement, m: &mut [u8], to: usize)
     match st {
         Statement::TwoAddresses(op, q, a, b) => put_two(op, q, a, b, m, to),
         Statement::OneAddress(op, q, a) => put_one(op, q, a, m, to),
-        Statement::Jump(q, byte) => put_three(
-            operation_byte(Operation::Jump, 0, 0),
-            q,
-            byte,
+        Statement::Jump(q, byte) => put_bytes(
             m,
             to,
+            &[operation_byte(Operation::Jump, 0, 0), q, byte],
         ),
         Statement::AddressConstants(copies, size, v) => put_addresses(copies, size, v, m, to),
-        Statement::None => {}
+        Statement::NoBytes => {}
     }
 }
 
@@ -232,7 +187,7 @@ fn put_operand_field(x: Operand, at: u8, m: &mut [u8], to: usize)
     requires { to + operand_count x ≤ length m.old }
     ensures { m.new ≡ sets m.old to (offsets_from at (operand_pieces x)) }
 {
-    if operand_count(x) == 1 {
+    if let Operand::Direct(Value::Relocatable(_)) = x {
         m[to] = at;
     }
 }
@@ -250,20 +205,19 @@ fn put_two_fields(a: Operand, b: Operand, m: &mut [u8], to: usize)
 }
 
 // Every copy of an address constant that is a field.
+#[tactic(auto, unfolding(crate::specs::Steps::two_apart), using(crate::proofs::Steps::apart_more, crate::proofs::Steps::apart_done, crate::proofs::Steps::address_fields))]
 fn put_address_fields(copies: u32, size: u32, v: Value, m: &mut [u8], to: usize)
     requires { (to + constant_count copies size v ≤ length m.old) × (2 * constant_count copies size v ≤ 256) }
     ensures { m.new ≡ sets m.old to (fields_of (copied copies (address_pieces size v))) }
 {
     let count = constant_count(copies, size, v);
-    let mut i = 0;
-    while i < count {
+    for i in 0..count {
         m[to + i] = (2 * i) as u8;
-        i += 1;
     }
 }
 
 // The offsets of a statement's relocatable fields, laid over a slice from a place on.
-#[tactic(auto, unfolding(crate::specs::Pieces::text_of, crate::specs::Pieces::pieces_of))]
+#[tactic(auto, unfolding(crate::specs::Pieces::offsets_from, crate::specs::Pieces::pieces_of), using(crate::proofs::Steps::addresses_count, crate::proofs::Laws::fields_half, crate::proofs::Steps::two_fields))]
 pub fn put_fields(st: Statement, m: &mut [u8], to: usize)
     requires { (length (text_of (pieces_of st)) ≤ 256) × (to + length (fields_of (pieces_of st)) ≤ length m.old) }
     ensures { m.new ≡ sets m.old to (fields_of (pieces_of st)) }

@@ -5,17 +5,17 @@ use native.Mathlib.Omega.{arith}
 use lib.ListN.{get_or}
 use Rattle.values.specs.Values.{moved_by}
 use Rattle.values.specs.Words.{word, long}
-use Rattle.book.specs.declared.Entry.TheVariants.{Absent}
 use Rattle.book.specs.Book.{fields_fit, fair, record_ok, records_from, header_ok, entry_at, book_of}
 use Rattle.book.specs.Writing.{record_bytes, records_bytes, book_bytes}
 use Rattle.fields.specs.Fields.{moved_in, over_in}
-use Rattle.load.specs.declared.Loaded.TheVariants.{Stored}
 use Rattle.load.specs.Load.{stored, stored_all, bytes_stored, first_card, judged, loading}
+use Rattle.theorems.specs.Judged.{stored_answer}
 use Rattle.examples.specs.WrongLoads.{laid_all, moved_all, stored_twice, Way, stored_by, records, by4, storage, rightly}
 use Rattle.examples.specs.WrongLoads.Way.{fields_after_text, first_alone, fields_twice, nothing}
+use Rattle.std.specs.Prelude.{None}
 
 -- the constant stands where it was laid, and the second field is moved once
-pub rightly-is : rightly ≡ record { answer = Stored 6 Absent; storage = 0x55 ∷ 0x55 ∷ 0x55 ∷ 0x55 ∷ 0 ∷ 0xFF ∷ 0 ∷ 6 ∷ [] }
+pub rightly-is : rightly ≡ record { answer = stored_answer 6 None; storage = 0x55 ∷ 0x55 ∷ 0x55 ∷ 0x55 ∷ 0 ∷ 0xFF ∷ 0 ∷ 6 ∷ [] }
 unfolding rightly moved_by word long fields_fit fair record_ok records_from header_ok entry_at book_of record_bytes records_bytes book_bytes moved_in over_in stored stored_all bytes_stored first_card judged loading
 rightly-is = refl
 

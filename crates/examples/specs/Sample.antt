@@ -3,8 +3,8 @@ use Rattle.std.specs.Prelude.{ℕ, List, [], ◌∷◌, map, Bool, true, false}
 use Prim.Native.String.{String}
 use Rattle.letters.specs.Text.{bytes}
 use Rattle.terms.specs.Names.{name_number}
-use Rattle.passes.specs.Assembly.{Result}
-use Rattle.passes.specs.Assembly.Result.{made, refused}
+use Rattle.passes.specs.Assembly.{Translated}
+use Rattle.passes.specs.Assembly.Translated.{made, refused}
 use Rattle.examples.specs.Table.{columns}
 
 abbrev pub behind_start : List (List ℕ)
@@ -16,6 +16,6 @@ sample_at start = columns start ∷ behind_start
 abbrev pub pay : ℕ
 pay = name_number (bytes "PAY") 0 3
 
-abbrev pub is_made : Result → Bool
+abbrev pub is_made : Translated → Bool
 is_made (made names book) = true
 is_made (refused number card) = false

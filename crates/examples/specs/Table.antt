@@ -1,26 +1,22 @@
 -- R20.1: one table of rows, each with what is written, the names, and what must come of it.
-use Rattle.std.specs.Prelude.{ℕ, ◌-◌, List, [], ◌∷◌, ◌++◌, map, length, replicate, eqb}
+use Rattle.std.specs.Prelude.{ℕ, ◌-◌, List, [], ◌∷◌, ◌++◌, map, length, replicate, eqb, Result, Ok, Err}
 use Prim.Native.String.{String}
 use Rattle.values.specs.Tests.{pick}
 use Rattle.values.specs.Words.{part}
 use Rattle.values.specs.declared.Value.{Value}
-use Rattle.values.specs.declared.Value.TheVariants.{Absolute, Relocatable}
 use Rattle.letters.specs.Text.{bytes}
 use Rattle.terms.specs.Names.{name_number}
 use Rattle.names.specs.declared.Name.{Name}
 use Rattle.names.specs.Names.{find}
-use Rattle.expressions.specs.declared.form.Form.{Form}
-use Rattle.expressions.specs.declared.form.Form.TheVariants.{Ends, Fails}
 use Rattle.values.specs.declared.Wanted.TheVariants.{Any}
-use Rattle.expressions.specs.declared.Evaluated.{Evaluated}
-use Rattle.expressions.specs.declared.Evaluated.TheVariants.{Good, Malformed, Undefined, WrongKind, OutOfRange}
 use Rattle.expressions.specs.Form.{form_of, form_no, expression_at}
 use Rattle.expressions.specs.Value.{evaluated, refusal_for}
-use Rattle.book.specs.Book.{Record, Book}
+use Rattle.book.specs.Book.{Record}
 use Rattle.book.specs.Writing.{book_bytes}
 use Rattle.load.specs.Load.{loading}
-use Rattle.passes.specs.Assembly.{Result, assembled}
-use Rattle.passes.specs.Assembly.Result.{made, refused as not_made}
+use Rattle.passes.specs.Assembly.{Translated, assembled}
+use Rattle.passes.specs.Assembly.Translated.{made, refused as not_made}
+use Rattle.expressions.specs.declared.Fault.{Fault}
 
 -- what comes of a row
 pub data Answer : Type 0 where
@@ -45,20 +41,17 @@ expected (loaded deck d from answer) = answer
 -- EXPRESSIONS
 
 abbrev pub value_answer : Value → Answer
-value_answer (Absolute a) = absolute a.0
-value_answer (Relocatable a) = relocatable a.0
+value_answer (Value.Absolute a) = absolute a.0
+value_answer (Value.Relocatable a) = relocatable a.0
 
-abbrev pub answer_of : Evaluated → Answer
-answer_of (Good v) = value_answer v
-answer_of Malformed = refused (refusal_for Any Malformed)
-answer_of Undefined = refused (refusal_for Any Undefined)
-answer_of WrongKind = refused (refusal_for Any WrongKind)
-answer_of (OutOfRange k) = refused (refusal_for Any (OutOfRange k))
+abbrev pub answer_of : Result Value Fault → Answer
+answer_of (Ok v) = value_answer v
+answer_of (Err why) = refused (refusal_for Any (Err why))
 
 -- 15 where the text goes on behind the expression
-abbrev pub whole_of : ℕ → Form → Answer → Answer
-whole_of n (Ends q) answer = pick (eqb q n) answer (refused 15)
-whole_of n (Fails q) answer = refused (form_no (Fails q))
+abbrev pub whole_of : ℕ → Result ℕ ℕ → Answer → Answer
+whole_of n (Ok q) answer = pick (eqb q n) answer (refused 15)
+whole_of n (Err q) answer = refused (form_no (Err q))
 
 abbrev pub expression_answer : List ℕ → List Name → Answer
 expression_answer s names = whole_of (length s) (form_of (expression_at s 0)) (answer_of (evaluated (find names) 0 (expression_at s 0)))
@@ -74,12 +67,12 @@ unfoldable pub record_answer : ℕ → List Record → Answer
 record_answer k [] = text [] []
 record_answer k (r ∷ rs) = pick (eqb r.card k) (text r.text r.fields) (record_answer k rs)
 
-abbrev pub card_answer : ℕ → Result → Answer
+abbrev pub card_answer : ℕ → Translated → Answer
 card_answer k (made names b) = record_answer k b.records
 card_answer k (not_made number at) = refused_at number at
 
 -- two bytes of a storage of 258 bytes that was all 55
-abbrev pub load_answer : Result → ℕ → ℕ → Answer
+abbrev pub load_answer : Translated → ℕ → ℕ → Answer
 load_answer (made names b) d from = stored (part (loading (book_bytes b) (record { 0 = d }) (replicate 258 0x55)).storage from 2)
 load_answer (not_made number at) d from = refused_at number at
 
@@ -93,10 +86,10 @@ abbrev pub number_of : String → ℕ
 number_of name = name_number (bytes name) 0 (length (bytes name))
 
 abbrev pub is_absolute : String → ℕ → Name
-is_absolute name n = record { number = number_of name; value = Absolute (record { 0 = n }); length = 1 }
+is_absolute name n = record { number = number_of name; value = Value.Absolute (record { 0 = n }); length = 1 }
 
 abbrev pub is_relocatable : String → ℕ → Name
-is_relocatable name n = record { number = number_of name; value = Relocatable (record { 0 = n }); length = 1 }
+is_relocatable name n = record { number = number_of name; value = Value.Relocatable (record { 0 = n }); length = 1 }
 
 unfoldable pub rows : List Row
 rows =

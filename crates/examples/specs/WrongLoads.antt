@@ -1,8 +1,7 @@
 -- Wrong ways to store a book's records (R20.3), and one small book on which each shows.
-use Rattle.std.specs.Prelude.{ℕ, ◌+◌, List, [], ◌∷◌, length, replicate}
+use Rattle.std.specs.Prelude.{ℕ, ◌+◌, List, [], ◌∷◌, length, replicate, None}
 use Rattle.values.specs.Words.{part}
 use Rattle.values.specs.declared.Displacement.{Displacement}
-use Rattle.book.specs.declared.Entry.TheVariants.{Absent}
 use Rattle.book.specs.Book.{Record}
 use Rattle.book.specs.Writing.{book_bytes}
 use Rattle.fields.specs.Fields.{moved_in, moved_text}
@@ -69,4 +68,4 @@ abbrev pub storage : List ℕ
 storage = replicate 8 0x55
 
 unfoldable pub rightly : Outcome
-rightly = loading (book_bytes (record { entry = Absent; records = records })) by4 storage
+rightly = loading (book_bytes (record { entry = None; records = records })) by4 storage

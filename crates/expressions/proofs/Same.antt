@@ -8,16 +8,17 @@ use native.Mathlib.Omega.{arith}
 use lib.Dec.{ltb}
 use borrow.Author.Tests.{ltb-true, ltb-false, le-ltb, le-leb}
 use Rattle.values.specs.Tests.{pick, either}
-use Rattle.values.specs.declared.Value.TheVariants.{Absolute, Relocatable}
 use Rattle.values.proofs.Laws.{clash}
 use Rattle.expressions.specs.declared.factors.Factor.{Factor}
 use Rattle.expressions.specs.declared.sums.Held.{Held}
 use Rattle.expressions.specs.declared.sums.Running.{Running}
 use Rattle.expressions.specs.declared.Kind.{Kind}
-use Rattle.expressions.specs.declared.Evaluated.TheVariants.{Good, OutOfRange}
 use Rattle.expressions.specs.Form.{Product, Addend}
 use Rattle.expressions.specs.Value.{times, times_out, any_relocatable, any_undefined, mixed_with, alone_with, worth, product_out, mixed, alone, undefined_in, if_plus, if_minus, counted, added, subtracted, after_plus, after_minus, sum_out, any_out, any_mixed, any_unknown, sum_of, value_of}
 use Rattle.expressions.specs.Steps.{begun, multiplied, multiplied_all, held, summed, summed_out, nothing, run_on, run_all, absolute_end, relocatable_end, ended}
+use Rattle.std.specs.Prelude.{Ok, Err}
+use Rattle.values.specs.declared.Value.{Value}
+use Rattle.expressions.specs.declared.Fault.TheVariants.{OutOfRange}
 
 -- TESTS
 
@@ -235,7 +236,7 @@ run_range r p m (x ∷ xs) e i =
 -- THE END
 
 absolute-same : (sum a b : ℕ) (out : Bool) → (out ≡ false → In sum a b)
-    → absolute_end sum out ≡ pick (either out (either (ltb (a + 65536) b) (ltb (b + 65535) a))) (OutOfRange Kind.Absolute) (Good (Absolute (record { 0 = (a + 65536 - b) % 65536 })))
+    → absolute_end sum out ≡ pick (either out (either (ltb (a + 65536) b) (ltb (b + 65535) a))) (Err (OutOfRange Kind.Absolute)) (Ok (Value.Absolute (record { 0 = (a + 65536 - b) % 65536 })))
 absolute-same sum a b true i = refl
 absolute-same sum a b false i =
     let n = i refl in
@@ -244,13 +245,13 @@ absolute-same sum a b false i =
     rw (l, u) (go (ltb (a + 65536) b) refl (ltb (b + 65535) a) n.is)
   where
     go : (x : Bool) → ltb (a + 65536) b ≡ x → (y : Bool) → sum + b ≡ a + 16777216
-        → pick (either x y) (OutOfRange Kind.Absolute) (Good (Absolute (record { 0 = sum % 65536 }))) ≡ pick (either x y) (OutOfRange Kind.Absolute) (Good (Absolute (record { 0 = (a + 65536 - b) % 65536 })))
+        → pick (either x y) (Err (OutOfRange Kind.Absolute)) (Ok (Value.Absolute (record { 0 = sum % 65536 }))) ≡ pick (either x y) (Err (OutOfRange Kind.Absolute)) (Ok (Value.Absolute (record { 0 = (a + 65536 - b) % 65536 })))
     go true h y e = refl
     go false h true e = refl
-    go false h false e = ap (λ (n : ℕ). Good (Absolute (record { 0 = n }))) (omega (arith, ltb-false (a + 65536) b h))
+    go false h false e = ap (λ (n : ℕ). Ok (Value.Absolute (record { 0 = n }))) (omega (arith, ltb-false (a + 65536) b h))
 
 relocatable-same : (sum a b : ℕ) (out : Bool) → (out ≡ false → In sum a b)
-    → relocatable_end sum out ≡ pick (either out (either (ltb a b) (ltb (b + 65535) a))) (OutOfRange Kind.Relocatable) (Good (Relocatable (record { 0 = a - b })))
+    → relocatable_end sum out ≡ pick (either out (either (ltb a b) (ltb (b + 65535) a))) (Err (OutOfRange Kind.Relocatable)) (Ok (Value.Relocatable (record { 0 = a - b })))
 relocatable-same sum a b true i = refl
 relocatable-same sum a b false i =
     let n = i refl in
@@ -259,10 +260,10 @@ relocatable-same sum a b false i =
     rw (l, u) (go (ltb a b) refl (ltb (b + 65535) a) refl n.is)
   where
     go : (x : Bool) → ltb a b ≡ x → (y : Bool) → ltb (b + 65535) a ≡ y → sum + b ≡ a + 16777216
-        → pick (either x y) (OutOfRange Kind.Relocatable) (Good (Relocatable (record { 0 = sum % 65536 }))) ≡ pick (either x y) (OutOfRange Kind.Relocatable) (Good (Relocatable (record { 0 = a - b })))
+        → pick (either x y) (Err (OutOfRange Kind.Relocatable)) (Ok (Value.Relocatable (record { 0 = sum % 65536 }))) ≡ pick (either x y) (Err (OutOfRange Kind.Relocatable)) (Ok (Value.Relocatable (record { 0 = a - b })))
     go true h y k e = refl
     go false h true k e = refl
-    go false h false k e = ap (λ (n : ℕ). Good (Relocatable (record { 0 = n }))) (omega (arith, ltb-false a b h, ltb-false (b + 65535) a k))
+    go false h false k e = ap (λ (n : ℕ). Ok (Value.Relocatable (record { 0 = n }))) (omega (arith, ltb-false a b h, ltb-false (b + 65535) a k))
 
 -- what the code comes to is the value
 pub ended_same : (xs : List (Addend Factor)) → ended (run_all nothing xs) ≡ value_of (sum_of xs)

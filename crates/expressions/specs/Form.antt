@@ -1,17 +1,14 @@
 -- R6.1, R6.2: the form of an expression, from the columns alone. A term that is none, and with it refusal 15, has its position.
-use Rattle.std.specs.Prelude.{ℕ, zero, suc, ◌+◌, List, [], ◌∷◌, Bool, false, length}
+use Rattle.std.specs.Prelude.{ℕ, zero, suc, ◌+◌, List, [], ◌∷◌, Bool, false, length, Result, Ok, Err}
 use Rattle.letters.specs.Text.{stands}
 use Rattle.values.specs.Tests.{pick, either}
 use Rattle.terms.specs.declared.Term.{Term}
-use Rattle.terms.specs.declared.Term.TheVariants.{Number, Symbol, Here, Bad}
 use Rattle.terms.specs.Terms.{term_at}
-use Rattle.expressions.specs.declared.form.Form.{Form}
-use Rattle.expressions.specs.declared.form.Form.TheVariants.{Ends, Fails}
 
 -- a term and the position at which it stands
 pub record Placed : Type 0 where
   pub at : ℕ
-  pub term : Term
+  pub term : Result (Term × ℕ) ℕ
 
 -- factors joined by *
 pub record Product (X : Type 0) : Type 0 where
@@ -28,26 +25,24 @@ pub data Read (X : Type 0) : Type 0 where
   up_to : X → ℕ → Read X
   fails : ℕ → Read X
 
-abbrev pub form_of : {X : Type 0} → Read X → Form
-form_of (up_to x q) = Ends q
-form_of (fails q) = Fails q
+abbrev pub form_of : {X : Type 0} → Read X → Result ℕ ℕ
+form_of (up_to x q) = Ok q
+form_of (fails q) = Err q
 
 -- R14.1: 15, not of the form
-abbrev pub form_no : Form → ℕ
-form_no (Ends q) = 0
-form_no (Fails q) = 15
+abbrev pub form_no : Result ℕ ℕ → ℕ
+form_no (Ok q) = 0
+form_no (Err q) = 15
 
 -- the position behind a term, or the one at which it fails
-abbrev pub end_of : Term → Form
-end_of (Number v q) = Ends q
-end_of (Symbol k q) = Ends q
-end_of (Here q) = Ends q
-end_of (Bad q) = Fails q
+abbrev pub end_of : Result (Term × ℕ) ℕ → Result ℕ ℕ
+end_of (Ok (t, q)) = Ok q
+end_of (Err q) = Err q
 
 -- reading on behind an end
-abbrev pub behind : {X : Type 0} → Form → (ℕ → Read X) → Read X
-behind (Ends q) on = on q
-behind (Fails q) on = fails q
+abbrev pub behind : {X : Type 0} → Result ℕ ℕ → (ℕ → Read X) → Read X
+behind (Ok q) on = on q
+behind (Err q) on = fails q
 
 -- one more in front of those that follow
 abbrev pub onto : {X : Type 0} → X → Read (List X) → Read (List X)

@@ -1,18 +1,17 @@
 -- What the code holds on its way through an expression. Only the contracts of functions inside cite these; proofs/Same.antt joins them to the definitions of Value.antt.
-use Rattle.std.specs.Prelude.{ℕ, ◌+◌, ◌-◌, ◌*◌, ◌%◌, List, [], ◌∷◌, map, Bool, true, false, ltb, leb, eqb}
+use Rattle.std.specs.Prelude.{Option, Some, None, ℕ, ◌+◌, ◌-◌, ◌*◌, ◌%◌, List, [], ◌∷◌, map, Bool, true, false, ltb, leb, eqb, Result, Ok, Err}
 use Rattle.values.specs.Tests.{pick, either}
-use Rattle.values.specs.declared.Value.TheVariants.{Absolute, Relocatable}
 use Rattle.names.specs.declared.Meaning.{Meaning}
 use Rattle.expressions.specs.declared.factors.Factor.{Factor}
 use Rattle.expressions.specs.declared.sums.Held.{Held}
 use Rattle.expressions.specs.declared.sums.Running.{Running}
-use Rattle.expressions.specs.declared.Multiplied.{Multiplied}
 use Rattle.expressions.specs.declared.Kind.{Kind}
-use Rattle.expressions.specs.declared.Evaluated.{Evaluated}
-use Rattle.expressions.specs.declared.Evaluated.TheVariants.{Good, Malformed, Undefined, WrongKind, OutOfRange}
 use Rattle.expressions.specs.Form.{Placed, Product, Addend, Read}
 use Rattle.expressions.specs.Form.Read.{up_to, fails}
 use Rattle.expressions.specs.Value.{placed_factor, product_factors, addend_factors, if_plus, if_minus, counted}
+use Rattle.values.specs.declared.Value.{Value}
+use Rattle.expressions.specs.declared.Fault.{Fault}
+use Rattle.expressions.specs.declared.Fault.TheVariants.{Malformed, Undefined, WrongKind, OutOfRange}
 
 -- A PRODUCT AT HAND: 0 once a partial product was out of range
 
@@ -39,13 +38,13 @@ abbrev pub held : Product Factor → Held
 held p = multiplied_all (begun p.first) p.others
 
 -- the product at a position, with what was held before its other factors
-unfoldable pub held_on : (ℕ → Meaning) → ℕ → Held → Read (List Placed) → Multiplied
-held_on look here h (up_to xs q) = Multiplied.Product (multiplied_all h (map (placed_factor look here) xs)) q
-held_on look here h (fails q) = Multiplied.Fails
+unfoldable pub held_on : (ℕ → Option Meaning) → ℕ → Held → Read (List Placed) → Option (Held × ℕ)
+held_on look here h (up_to xs q) = Some ((multiplied_all h (map (placed_factor look here) xs)), q)
+held_on look here h (fails q) = None
 
-unfoldable pub held_at : (ℕ → Meaning) → ℕ → Read (Product Placed) → Multiplied
-held_at look here (up_to p q) = Multiplied.Product (held (product_factors look here p)) q
-held_at look here (fails q) = Multiplied.Fails
+unfoldable pub held_at : (ℕ → Option Meaning) → ℕ → Read (Product Placed) → Option (Held × ℕ)
+held_at look here (up_to p q) = Some ((held (product_factors look here p)), q)
+held_at look here (fails q) = None
 
 -- THE RUNNING SUM: 16777216 above its value, and left where it was when it would leave the range
 
@@ -74,25 +73,29 @@ unfoldable pub run_all : Running → List (Addend Factor) → Running
 run_all r [] = r
 run_all r (x ∷ xs) = run_all (run_on r x.minus (held x.product)) xs
 
-abbrev pub absolute_end : ℕ → Bool → Evaluated
+-- a sum in the range of its kind
+abbrev pub ranged : Kind → ℕ → Running → Result ℕ Fault
+ranged k least r = pick (either r.out (either (ltb r.sum least) (ltb 16842751 r.sum))) (Err (OutOfRange k)) (Ok (r.sum % 65536))
+
+abbrev pub absolute_end : ℕ → Bool → Result Value Fault
 absolute_end sum out =
     pick (either out (either (ltb sum 16711680) (ltb 16842751 sum)))
-    (OutOfRange Kind.Absolute)
-    (Good (Absolute (record { 0 = sum % 65536 })))
+    (Err (OutOfRange Kind.Absolute))
+    (Ok (Value.Absolute (record { 0 = sum % 65536 })))
 
-abbrev pub relocatable_end : ℕ → Bool → Evaluated
+abbrev pub relocatable_end : ℕ → Bool → Result Value Fault
 relocatable_end sum out =
     pick (either out (either (ltb sum 16777216) (ltb 16842751 sum)))
-    (OutOfRange Kind.Relocatable)
-    (Good (Relocatable (record { 0 = sum % 65536 })))
+    (Err (OutOfRange Kind.Relocatable))
+    (Ok (Value.Relocatable (record { 0 = sum % 65536 })))
 
-unfoldable pub ended : Running → Evaluated
+unfoldable pub ended : Running → Result Value Fault
 ended r =
-    pick r.undefined Undefined
-    (pick r.mixed WrongKind
+    pick r.undefined (Err Undefined)
+    (pick r.mixed (Err WrongKind)
     (pick (eqb r.plus r.minus) (absolute_end r.sum r.out)
-    (pick (eqb r.plus (r.minus + 1)) (relocatable_end r.sum r.out) WrongKind)))
+    (pick (eqb r.plus (r.minus + 1)) (relocatable_end r.sum r.out) (Err WrongKind))))
 
-unfoldable pub run_from : (ℕ → Meaning) → ℕ → Running → Read (List (Addend Placed)) → Evaluated
+unfoldable pub run_from : (ℕ → Option Meaning) → ℕ → Running → Read (List (Addend Placed)) → Result Value Fault
 run_from look here r (up_to xs q) = ended (run_all r (map (addend_factors look here) xs))
-run_from look here r (fails q) = Malformed
+run_from look here r (fails q) = Err Malformed

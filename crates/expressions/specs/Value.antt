@@ -1,49 +1,50 @@
 -- R6.3 to R6.11: the value of an expression, over what the names say (look) and the counter at the start of the card (here).
-use Rattle.std.specs.Prelude.{ℕ, ◌+◌, ◌-◌, ◌*◌, ◌%◌, List, [], ◌∷◌, map, Bool, true, false, ltb, eqb}
+use Rattle.std.specs.Prelude.{Option, Some, None, ℕ, ◌+◌, ◌-◌, ◌*◌, ◌%◌, List, [], ◌∷◌, map, Bool, true, false, ltb, eqb, Result, Ok, Err}
 use Rattle.values.specs.Tests.{pick, either}
 use Rattle.values.specs.declared.Value.{Value}
-use Rattle.values.specs.declared.Value.TheVariants.{Absolute, Relocatable}
-use Rattle.values.specs.declared.MaybeValue.{MaybeValue}
-use Rattle.values.specs.declared.MaybeAbsolute.{MaybeAbsolute}
-use Rattle.values.specs.declared.MaybeRelocatable.{MaybeRelocatable}
 use Rattle.values.specs.declared.Wanted.{Wanted}
 use Rattle.values.specs.declared.Wanted.TheVariants.{Any, OnlyAbsolute, OnlyRelocatable}
 use Rattle.values.specs.Values.{only_absolute, only_relocatable}
 use Rattle.terms.specs.declared.Term.{Term}
-use Rattle.terms.specs.declared.Term.TheVariants.{Number, Symbol, Here, Bad}
+use Rattle.terms.specs.declared.Term.TheVariants.{Number, Symbol, Here}
 use Rattle.names.specs.declared.Meaning.{Meaning}
-use Rattle.names.specs.declared.Meaning.TheVariants.{Known, Unknown}
 use Rattle.expressions.specs.declared.factors.Factor.{Factor}
 use Rattle.expressions.specs.declared.Kind.{Kind}
-use Rattle.expressions.specs.declared.Evaluated.{Evaluated}
-use Rattle.expressions.specs.declared.Evaluated.TheVariants.{Good, Malformed, Undefined, WrongKind, OutOfRange}
 use Rattle.expressions.specs.Form.{Placed, Product, Addend, Read}
 use Rattle.expressions.specs.Form.Read.{up_to, fails}
+use Rattle.values.specs.declared.Absolute.{Absolute}
+use Rattle.values.specs.declared.Relocatable.{Relocatable}
+use Rattle.expressions.specs.declared.Fault.{Fault}
+use Rattle.expressions.specs.declared.Fault.TheVariants.{Malformed, Undefined, WrongKind, OutOfRange}
 
 -- TERMS
 
 abbrev pub value_factor : Value → Factor
-value_factor (Absolute a) = record { value = a.0; relocatable = false; undefined = false }
-value_factor (Relocatable a) = record { value = a.0; relocatable = true; undefined = false }
+value_factor (Value.Absolute a) = record { value = a.0; relocatable = false; undefined = false }
+value_factor (Value.Relocatable a) = record { value = a.0; relocatable = true; undefined = false }
 
-abbrev pub meaning_factor : Meaning → Factor
-meaning_factor (Known v l) = value_factor v
-meaning_factor Unknown = record { value = 0; relocatable = false; undefined = true }
+abbrev pub meaning_factor : Option Meaning → Factor
+meaning_factor (Some m) = value_factor m.value
+meaning_factor None = record { value = 0; relocatable = false; undefined = true }
 
 -- R5.2 to R5.7: what a term stands for; `*` is the counter, and relocatable
-abbrev pub factor_of : (ℕ → Meaning) → ℕ → Term → Factor
-factor_of look here (Number v q) = record { value = v; relocatable = false; undefined = false }
-factor_of look here (Symbol k q) = meaning_factor (look k)
-factor_of look here (Here q) = record { value = here; relocatable = true; undefined = false }
-factor_of look here (Bad q) = record { value = 0; relocatable = false; undefined = false }
+abbrev pub factor_of : (ℕ → Option Meaning) → ℕ → Term → Factor
+factor_of look here (Number v) = record { value = v; relocatable = false; undefined = false }
+factor_of look here (Symbol k) = meaning_factor (look k)
+factor_of look here Here = record { value = here; relocatable = true; undefined = false }
 
-abbrev pub placed_factor : (ℕ → Meaning) → ℕ → Placed → Factor
-placed_factor look here x = factor_of look here x.term
+-- no expression has a place at which no term could go on
+abbrev pub factor_at : (ℕ → Option Meaning) → ℕ → Result (Term × ℕ) ℕ → Factor
+factor_at look here (Ok (t, q)) = factor_of look here t
+factor_at look here (Err q) = record { value = 0; relocatable = false; undefined = false }
 
-abbrev pub product_factors : (ℕ → Meaning) → ℕ → Product Placed → Product Factor
+abbrev pub placed_factor : (ℕ → Option Meaning) → ℕ → Placed → Factor
+placed_factor look here x = factor_at look here x.term
+
+abbrev pub product_factors : (ℕ → Option Meaning) → ℕ → Product Placed → Product Factor
 product_factors look here p = record { first = placed_factor look here p.first; others = map (placed_factor look here) p.others }
 
-abbrev pub addend_factors : (ℕ → Meaning) → ℕ → Addend Placed → Addend Factor
+abbrev pub addend_factors : (ℕ → Option Meaning) → ℕ → Addend Placed → Addend Factor
 addend_factors look here a = record { minus = a.minus; product = product_factors look here a.product }
 
 -- PRODUCTS
@@ -170,39 +171,39 @@ sum_of xs = record {
 -- THE VALUE
 
 -- R6.7, R6.8: the range of an absolute sum, and then modulo 65536
-abbrev pub absolute_of : Sum → Evaluated
+abbrev pub absolute_of : Sum → Result Value Fault
 absolute_of s =
     pick (either s.out (either (ltb (s.added + 65536) s.subtracted) (ltb (s.subtracted + 65535) s.added)))
-    (OutOfRange Kind.Absolute)
-    (Good (Absolute (record { 0 = (s.added + 65536 - s.subtracted) % 65536 })))
+    (Err (OutOfRange Kind.Absolute))
+    (Ok (Value.Absolute (record { 0 = (s.added + 65536 - s.subtracted) % 65536 })))
 
 -- R6.9: the range of a relocatable sum
-abbrev pub relocatable_of : Sum → Evaluated
+abbrev pub relocatable_of : Sum → Result Value Fault
 relocatable_of s =
     pick (either s.out (either (ltb s.added s.subtracted) (ltb (s.subtracted + 65535) s.added)))
-    (OutOfRange Kind.Relocatable)
-    (Good (Relocatable (record { 0 = s.added - s.subtracted })))
+    (Err (OutOfRange Kind.Relocatable))
+    (Ok (Value.Relocatable (record { 0 = s.added - s.subtracted })))
 
 -- R6.5: the kind by what is left of the relocatable terms: none, one, or 19
-abbrev pub by_kind : Sum → Evaluated
+abbrev pub by_kind : Sum → Result Value Fault
 by_kind s =
     pick (eqb s.after_plus s.after_minus) (absolute_of s)
-    (pick (eqb s.after_plus (s.after_minus + 1)) (relocatable_of s) WrongKind)
+    (pick (eqb s.after_plus (s.after_minus + 1)) (relocatable_of s) (Err WrongKind))
 
 -- R6.11: 18, then 19, then 20, whatever their order in the text
-unfoldable pub value_of : Sum → Evaluated
-value_of s = pick s.undefined Undefined (pick s.mixed WrongKind (by_kind s))
+unfoldable pub value_of : Sum → Result Value Fault
+value_of s = pick s.undefined (Err Undefined) (pick s.mixed (Err WrongKind) (by_kind s))
 
 -- the value of what was read as an expression, or why it has none
-unfoldable pub evaluated : (ℕ → Meaning) → ℕ → Read (List (Addend Placed)) → Evaluated
+unfoldable pub evaluated : (ℕ → Option Meaning) → ℕ → Read (List (Addend Placed)) → Result Value Fault
 evaluated look here (up_to xs q) = value_of (sum_of (map (addend_factors look here) xs))
-evaluated look here (fails q) = Malformed
+evaluated look here (fails q) = Err Malformed
 
 -- WHAT A PLACE MAKES OF IT
 
 abbrev pub kind_of : Value → Kind
-kind_of (Absolute a) = Kind.Absolute
-kind_of (Relocatable a) = Kind.Relocatable
+kind_of (Value.Absolute a) = Kind.Absolute
+kind_of (Value.Relocatable a) = Kind.Relocatable
 
 abbrev pub is_absolute : Kind → Bool
 is_absolute Kind.Absolute = true
@@ -218,36 +219,36 @@ suits OnlyAbsolute k = is_absolute k
 suits OnlyRelocatable k = is_relocatable k
 
 -- R6.10, R6.11: the refusal of an expression where a kind is wanted: a wrong kind goes before a value out of range
-abbrev pub refusal_for : Wanted → Evaluated → ℕ
-refusal_for w (Good v) = pick (suits w (kind_of v)) 0 19
-refusal_for w Malformed = 15
-refusal_for w Undefined = 18
-refusal_for w WrongKind = 19
-refusal_for w (OutOfRange k) = pick (suits w k) 20 19
+abbrev pub refusal_for : Wanted → Result Value Fault → ℕ
+refusal_for w (Ok v) = pick (suits w (kind_of v)) 0 19
+refusal_for w (Err Malformed) = 15
+refusal_for w (Err Undefined) = 18
+refusal_for w (Err WrongKind) = 19
+refusal_for w (Err (OutOfRange k)) = pick (suits w k) 20 19
 
 -- the value, where there is one
-abbrev pub value_in : Evaluated → MaybeValue
-value_in (Good v) = MaybeValue.Is v
-value_in Malformed = MaybeValue.Nothing
-value_in Undefined = MaybeValue.Nothing
-value_in WrongKind = MaybeValue.Nothing
-value_in (OutOfRange k) = MaybeValue.Nothing
+abbrev pub value_in : Result Value Fault → Option Value
+value_in (Ok v) = Some v
+value_in (Err Malformed) = None
+value_in (Err Undefined) = None
+value_in (Err WrongKind) = None
+value_in (Err (OutOfRange k)) = None
 
 -- the value, where there is one and it is absolute
-abbrev pub absolute_in : Evaluated → MaybeAbsolute
+abbrev pub absolute_in : Result Value Fault → Option Absolute
 absolute_in e = only_absolute (value_in e)
 
 -- the value, where there is one and it is relocatable
-abbrev pub relocatable_in : Evaluated → MaybeRelocatable
+abbrev pub relocatable_in : Result Value Fault → Option Relocatable
 relocatable_in e = only_relocatable (value_in e)
 
 -- R10.8: the length that a first term implies
-abbrev pub meaning_length : Meaning → ℕ
-meaning_length (Known v l) = l
-meaning_length Unknown = 1
+abbrev pub meaning_length : Option Meaning → ℕ
+meaning_length (Some m) = m.length
+meaning_length None = 1
 
-abbrev pub term_length : (ℕ → Meaning) → Term → ℕ
-term_length look (Number v q) = 1
-term_length look (Symbol k q) = meaning_length (look k)
-term_length look (Here q) = 1
-term_length look (Bad q) = 1
+abbrev pub term_length : (ℕ → Option Meaning) → Result (Term × ℕ) ℕ → ℕ
+term_length look (Ok (Number v, q)) = 1
+term_length look (Ok (Symbol k, q)) = meaning_length (look k)
+term_length look (Ok (Here, q)) = 1
+term_length look (Err q) = 1

@@ -1,78 +1,55 @@
 // The form of an expression: where it ends, or the first position at which it could not go on.
-ghost use Rattle.std.specs.Prelude.{◌≡◌};
-ghost use Rattle.expressions.specs.Form.{form_of, end_of, joins, factors_at, product_at, expression_at};
+ghost use Rattle.std.specs.Prelude.{Ok, Err, ◌≡◌, ◌+◌, ◌<◌, get_or, eqb};
+ghost use Rattle.values.specs.Tests.{pick};
+ghost use Rattle.expressions.specs.Form.{form_of, joins, factors_at, product_at, expression_at};
 
 use letters::byte_at;
-use terms::{Term, read_term};
+use terms::read_term;
 
-#[derive(Clone, Copy)]
-pub enum Form {
-    Ends(usize),
-    Fails(usize),
-}
-
-pub fn end_of(t: Term) -> Form
-    ensures { result ≡ end_of t }
+// The position behind a byte, if it stands here.
+pub fn behind_byte(s: &[u8], at: usize, b: u8) -> Result<usize, usize>
+    requires { 0 < b }
+    ensures { result ≡ pick (eqb (get_or s.now at 0) b) (Ok (at + 1)) (Err at) }
 {
-    match t {
-        Term::Number(_, q) => Form::Ends(q),
-        Term::Symbol(_, q) => Form::Ends(q),
-        Term::Here(q) => Form::Ends(q),
-        Term::Bad(q) => Form::Fails(q),
+    if byte_at(s, at) == b {
+        Ok(at + 1)
+    } else {
+        Err(at)
     }
 }
 
 pub fn joins_at(s: &[u8], at: usize) -> bool
     ensures { result ≡ joins s.now at }
 {
-    let b = byte_at(s, at);
-    if b == b'+' { true } else { b == b'-' }
+    matches!(byte_at(s, at), b'+' | b'-')
 }
 
-fn factors_form(s: &[u8], at: usize) -> Form
+fn factors_form(s: &[u8], at: usize) -> Result<usize, usize>
     ensures { result ≡ form_of (factors_at s.now at) }
 {
     let mut q = at;
     while byte_at(s, q) == b'*' {
-        match end_of(read_term(s, q + 1)) {
-            Form::Fails(r) => {
-                return Form::Fails(r);
-            }
-            Form::Ends(r) => {
-                q = r;
-            }
-        }
+        let (_, behind) = read_term(s, q + 1)?;
+        q = behind;
     }
-    Form::Ends(q)
+    Ok(q)
 }
 
 #[tactic(auto, unfolding(crate::specs::Form::product_at))]
-fn product_form(s: &[u8], at: usize) -> Form
+fn product_form(s: &[u8], at: usize) -> Result<usize, usize>
     ensures { result ≡ form_of (product_at s.now at) }
 {
-    match end_of(read_term(s, at)) {
-        Form::Fails(q) => Form::Fails(q),
-        Form::Ends(q) => factors_form(s, q),
-    }
+    let (_, q) = read_term(s, at)?;
+    factors_form(s, q)
 }
 
 // The form of the expression at a position.
-pub fn expression_form(s: &[u8], at: usize) -> Form
+pub fn expression_form(s: &[u8], at: usize) -> Result<usize, usize>
     ensures { result ≡ form_of (expression_at s.now at) }
 {
-    let mut p = at;
-    loop {
-        match product_form(s, p) {
-            Form::Fails(q) => {
-                return Form::Fails(q);
-            }
-            Form::Ends(q) => {
-                if joins_at(s, q) {
-                    p = q + 1;
-                } else {
-                    return Form::Ends(q);
-                }
-            }
-        }
+    let mut q = product_form(s, at)?;
+    while joins_at(s, q) {
+        q = product_form(s, q + 1)?;
     }
+    Ok(q)
 }

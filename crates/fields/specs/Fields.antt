@@ -1,13 +1,11 @@
 -- R17.2, R17.6: the listed fields of a record's text, moved by a displacement.
-use Rattle.std.specs.Prelude.{ℕ, List, [], ◌∷◌, Bool, true, false}
+use Rattle.std.specs.Prelude.{ℕ, List, [], ◌∷◌, Bool, true, false, Option, Some, None}
 use Rattle.std.proofs.lemmas.List.Edits.{sets}
 use Rattle.values.specs.Tests.{either}
 use Rattle.values.specs.Values.{moved_by}
 use Rattle.values.specs.Words.{word, two_bytes}
 use Rattle.values.specs.declared.Displacement.{Displacement}
 use Rattle.values.specs.declared.Relocatable.{Relocatable}
-use Rattle.values.specs.declared.Moved.{Moved}
-use Rattle.values.specs.declared.Moved.TheVariants.{To, Over}
 use Rattle.book.specs.Book.{Record}
 
 -- the value in a text at an offset
@@ -15,9 +13,9 @@ abbrev pub field_in : List ℕ → ℕ → Relocatable
 field_in text o = record { 0 = word text o }
 
 -- a text t with a moved value at an offset; one that is over is refused before it comes to that
-abbrev pub with_field : Moved → ℕ → List ℕ → List ℕ
-with_field (To v) o t = sets t o (two_bytes v.0)
-with_field Over o t = t
+abbrev pub with_field : Option Relocatable → ℕ → List ℕ → List ℕ
+with_field (Some v) o t = sets t o (two_bytes v.0)
+with_field None o t = t
 
 -- R17.2: a text t in which each listed field gets its value in the text as it was, `was`, moved by d
 unfoldable pub moved_in : Displacement → List ℕ → List ℕ → List ℕ → List ℕ
@@ -28,9 +26,9 @@ moved_in d was (o ∷ os) t = moved_in d was os (with_field (moved_by d (field_i
 abbrev pub moved_text : Displacement → Record → List ℕ
 moved_text d r = moved_in d r.text r.fields r.text
 
-abbrev pub is_over : Moved → Bool
-is_over (To v) = false
-is_over Over = true
+abbrev pub is_over : Option Relocatable → Bool
+is_over (Some v) = false
+is_over None = true
 
 -- R17.6: 52, a listed field, moved by d, is over
 unfoldable pub over_in : Displacement → List ℕ → List ℕ → Bool

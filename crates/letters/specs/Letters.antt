@@ -1,5 +1,5 @@
 -- R2.2, R2.3: the accepted characters, their classes and their EBCDIC codes.
-use Rattle.std.specs.Prelude.{ℕ, suc, ◌+◌, ◌-◌, List, [], ◌∷◌, Bool, true, false, eqb}
+use Rattle.std.specs.Prelude.{ℕ, ◌+◌, ◌-◌, List, [], ◌∷◌, Bool, true, false, eqb}
 use Prim.Native.Char.{Char}
 use Prim.Native.String.{String, [] as none, ◌∷◌ as ◌then◌}
 use Rattle.values.specs.Tests.{pick}

@@ -1,8 +1,6 @@
 -- The constant table of the 61 pairs, by their ASCII bytes, and where a byte's pair stands in it.
-use Rattle.std.specs.Prelude.{ℕ, ◌+◌, ◌-◌, List, [], ◌∷◌, ltb, eqb}
-use Prim.Native.Char.{Char}
+use Rattle.std.specs.Prelude.{ℕ, ◌-◌, List, [], ◌∷◌, ltb, eqb}
 use Rattle.values.specs.Tests.{pick}
-use Rattle.letters.specs.Text.{byte}
 use Rattle.letters.specs.Letters.{blank_code, coded}
 use Rattle.letters.specs.declared.Pair.{Pair}
 

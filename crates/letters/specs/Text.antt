@@ -1,5 +1,5 @@
 -- Characters and texts, as the ASCII bytes that stand for them on a card.
-use Rattle.std.specs.Prelude.{ℕ, zero, suc, ◌+◌, List, [], ◌∷◌, Bool, true, false, eqb, leb, get_or}
+use Rattle.std.specs.Prelude.{ℕ, zero, suc, ◌+◌, List, [], ◌∷◌, Bool, false, eqb, leb, get_or}
 use Prim.Native.Char.{Char, code}
 use Prim.Native.String.{String, [] as none, ◌∷◌ as ◌then◌}
 use Rattle.values.specs.Tests.{pick, both, either}

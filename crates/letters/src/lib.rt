@@ -5,7 +5,7 @@ ghost use Rattle.std.specs.Prelude.{◌≡◌, ◌<◌, ◌≤◌, get_or};
 ghost use Rattle.letters.specs.Letters.{class_of, code_of, digit_of, starts_name, goes_on_name, is_blank, is_accepted};
 ghost use Rattle.letters.specs.Table.{place_of};
 
-#[derive(Clone, Copy)]
+#[derive(Debug, Clone, Copy, PartialEq, Eq)]
 pub enum Class {
     Letter,
     Digit,
@@ -18,7 +18,7 @@ pub enum Class {
 pub const BLANK_CODE: u8 = 0x40;
 
 // An ASCII byte and its EBCDIC code.
-#[derive(Clone, Copy)]
+#[derive(Debug, Clone, Copy, PartialEq, Eq)]
 pub struct Pair(pub u8, pub u8);
 
 // The accepted characters, by their ASCII bytes: 32 to 90, 95 and 124.
@@ -106,7 +106,7 @@ fn place_of(b: u8) -> usize
     ensures { (result ≡ place_of b) × (result < 61) }
 {
     match b {
-        b' '..=b'Z' => values::words::wide(b) - 32,
+        b' '..=b'Z' => usize::from(b - b' '),
         b'_' => 59,
         b'|' => 60,
         _ => 0,
@@ -117,8 +117,7 @@ fn place_of(b: u8) -> usize
 pub fn code_of(b: u8) -> u8
     ensures { result ≡ code_of b }
 {
-    let i = place_of(b);
-    let p = PAIRS[i];
+    let p = &PAIRS[place_of(b)];
     if p.0 == b { p.1 } else { 0 }
 }
 
@@ -137,56 +136,32 @@ pub fn digit_of(b: u8) -> u8
 pub fn starts_name(c: Class) -> bool
     ensures { result ≡ starts_name c }
 {
-    match c {
-        Class::Letter => true,
-        Class::Digit => false,
-        Class::Sign => false,
-        Class::Blank => false,
-        Class::Refused => false,
-    }
+    c == Class::Letter
 }
 
 pub fn goes_on_name(c: Class) -> bool
     ensures { result ≡ goes_on_name c }
 {
-    match c {
-        Class::Letter => true,
-        Class::Digit => true,
-        Class::Sign => false,
-        Class::Blank => false,
-        Class::Refused => false,
-    }
+    matches!(c, Class::Letter | Class::Digit)
 }
 
 pub fn is_blank(c: Class) -> bool
     ensures { result ≡ is_blank c }
 {
-    match c {
-        Class::Letter => false,
-        Class::Digit => false,
-        Class::Sign => false,
-        Class::Blank => true,
-        Class::Refused => false,
-    }
+    c == Class::Blank
 }
 
 pub fn is_accepted(c: Class) -> bool
     ensures { result ≡ is_accepted c }
 {
-    match c {
-        Class::Letter => true,
-        Class::Digit => true,
-        Class::Sign => true,
-        Class::Blank => true,
-        Class::Refused => false,
-    }
+    c != Class::Refused
 }
 
 // The byte at a position; 0, which is no accepted byte, past the end.
 pub fn byte_at(s: &[u8], i: usize) -> u8
     ensures { result ≡ get_or s.now i 0 }
 {
-    if i < s.len() { s[i] } else { 0 }
+    s.get(i).copied().unwrap_or(0)
 }
 
 #[tactic(auto, unfolding(crate::specs::Letters::class_of))]

@@ -4,14 +4,11 @@ use Prim.Native.Nat.{ℕ, ◌≤◌, ◌<◌, ◌^◌}
 use mathlib.Core.List.{List}
 use mathlib.Core.Bool.{Bool, true, false}
 use mathlib.Core.Path.{◌≡◌, sym, ◌∙◌, subst}
-use native.Mathlib.Omega.{arith}
 use lib.ListN.{length}
 use Rattle.letters.specs.Text.{stands}
 use Rattle.values.specs.Tests.{pick}
 use Rattle.values.proofs.Laws.{clash}
 use Rattle.terms.specs.Names.{name_at}
-use Rattle.terms.specs.declared.naming.NameRead.{NameRead}
-use Rattle.terms.specs.declared.naming.NameRead.TheVariants.{Named, NoName}
 use Rattle.terms.proofs.Within.{NameWithin, name-within}
 use Rattle.cards.specs.declared.Fields.{Fields}
 use Rattle.cards.specs.declared.Card.{Card}
@@ -23,12 +20,13 @@ use Rattle.lines.specs.declared.Line.{Line}
 use Rattle.lines.specs.declared.Reading.{Reading}
 use Rattle.lines.specs.declared.Reading.TheVariants.{Comment, BadName, Statement}
 use Rattle.lines.specs.Lines.{line_of, reading_from, reading_of, operand_columns}
+use Rattle.std.specs.Prelude.{Some, None, Result, Ok, Err}
 
 module _ (s : List ℕ) where
   pub record LineWithin (l : Line) : Type 0 where
     pub operand : l.operand ≤ l.end
     pub end : l.end ≤ length s
-    pub name : l.name < 2 ^ 48
+    pub name : (name : ℕ) → l.name ≡ Some name → name < 2 ^ 48
 
   abbrev pub ReadingWithin : Reading → Type 0
   ReadingWithin Comment = Unit {0}
@@ -38,23 +36,23 @@ module _ (s : List ℕ) where
   abbrev NameBelow : Card → Type 0
   NameBelow CardComment = Unit {0}
   NameBelow CardBadName = Unit {0}
-  NameBelow (CardStatement f) = f.name < 2 ^ 48
+  NameBelow (CardStatement f) = (name : ℕ) → f.name ≡ Some name → name < 2 ^ 48
 
   name_below : NameBelow (card_of s)
   unfolding card_of fields_behind
   name_below = go (stands "*" s 0) (blank_at s 0)
     where
-      named : (n : NameRead) → NameWithin s 0 n → NameBelow (named_card s n)
-      named (Named number next) w = ends (name_ends s next)
+      named : (n : Result (ℕ × ℕ) ℕ) → NameWithin s 0 n → NameBelow (named_card s n)
+      named (Ok (number, next)) w = ends (name_ends s next)
         where
-          ends : (x : Bool) → NameBelow (pick x (CardStatement (fields_behind number s next)) CardBadName)
-          ends true = w.2
+          ends : (x : Bool) → NameBelow (pick x (CardStatement (fields_behind (Some number) s next)) CardBadName)
+          ends true = λ name e. let same : name ≡ number = cc in rw same w.2
           ends false = tt
-      named (NoName place) w = tt
+      named (Err place) w = tt
 
-      go : (x y : Bool) → NameBelow (pick x CardComment (pick y (CardStatement (fields_behind 0 s 0)) (named_card s (name_at s 0))))
+      go : (x y : Bool) → NameBelow (pick x CardComment (pick y (CardStatement (fields_behind None s 0)) (named_card s (name_at s 0))))
       go true y = tt
-      go false true = omega arith
+      go false true = λ name e. clash (cc)
       go false false = named (name_at s 0) (name-within s 0)
 
   pub fields_within : (c : Card) (f : Fields) → c ≡ card_of s → c ≡ CardStatement f → (f.operand ≤ f.end) × (f.end ≤ length s)

@@ -1,5 +1,5 @@
 -- R2.4 to R2.6, R4.1, R9.1: a card by its statement columns: a comment, a bad name, or a line with its name, its operation and the shape of its operand.
-use Rattle.std.specs.Prelude.{ℕ, ◌-◌, List}
+use Rattle.std.specs.Prelude.{ℕ, ◌-◌, List, Result, Ok, Err}
 use Rattle.values.specs.Words.{part}
 use Rattle.cards.specs.declared.Fields.{Fields}
 use Rattle.cards.specs.declared.Card.{Card}
@@ -8,7 +8,6 @@ use Rattle.cards.specs.Fields.{card_of}
 use Rattle.mnemonics.specs.Rows.{operation_at}
 use Rattle.mnemonics.specs.Model10.{model10}
 use Rattle.forms.specs.declared.Shape.{Shape}
-use Rattle.forms.specs.declared.Shape.TheVariants.{Fails, Nothing, StartAt, Expression, Pair, Target, TwoAddresses, AddressAndCode, LoneAddress, Data}
 use Rattle.forms.specs.Shape.{shape_of}
 use Rattle.lines.specs.declared.Line.{Line}
 use Rattle.lines.specs.declared.Reading.{Reading}
@@ -39,14 +38,6 @@ abbrev pub operand_columns : List ℕ → Line → List ℕ
 operand_columns s l = part s l.operand (l.end - l.operand)
 
 -- R14.1: 15, not of the form
-abbrev pub shape_no : Shape → ℕ
-shape_no (Fails q) = 15
-shape_no Nothing = 0
-shape_no (StartAt v) = 0
-shape_no Expression = 0
-shape_no (Pair p) = 0
-shape_no Target = 0
-shape_no (TwoAddresses a b) = 0
-shape_no (AddressAndCode a p) = 0
-shape_no (LoneAddress a) = 0
-shape_no (Data d) = 0
+abbrev pub shape_no : Result Shape ℕ → ℕ
+shape_no (Err q) = 15
+shape_no (Ok x) = 0

@@ -2,24 +2,26 @@
 #![tactic(auto)]
 
 ghost use Rattle.std.specs.Prelude.{◌≡◌, ◌≤◌, length};
+ghost use Rattle.values.specs.Refusals.{number_in};
 ghost use Rattle.lines.specs.Lines.{line_of, reading_of, shape_no};
 
 use cards::{Card, Fields, read_card};
 use forms::{Shape, shape_of};
 use mnemonics::operation_at;
 use operations::Operation;
+use values::refusals::Refusal;
 
-// A statement: the name's number, 0 where there is none, and where the operand starts and ends.
-#[derive(Clone, Copy)]
+// A statement: its name's number, its operation, and the shape of its operand or the place where that fails, with where it starts and ends.
+#[derive(Clone, Copy, Debug, PartialEq, Eq)]
 pub struct Line {
-    pub name: u64,
+    pub name: Option<u64>,
     pub operation: Operation,
-    pub shape: Shape,
+    pub shape: Result<Shape, usize>,
     pub operand: usize,
     pub end: usize,
 }
 
-#[derive(Clone, Copy)]
+#[derive(Clone, Copy, Debug, PartialEq, Eq)]
 pub enum Reading {
     Comment,
     BadName,
@@ -32,15 +34,12 @@ fn line_of(card: &[u8], f: Fields) -> Line
     ensures { result ≡ line_of card.now f }
 {
     let operation = operation_at(card, f.operation, f.behind);
-    let from = f.operand;
-    let end = f.end;
-    let shape = shape_of(&card[from..end], operation);
     Line {
         name: f.name,
-        operation: operation,
-        shape: shape,
-        operand: from,
-        end: end,
+        operation,
+        shape: shape_of(&card[f.operand..f.end], operation),
+        operand: f.operand,
+        end: f.end,
     }
 }
 
@@ -56,12 +55,12 @@ pub fn read_line(card: &[u8]) -> Reading
     }
 }
 
-// Refusal 15; 0: none.
-pub fn shape_no(x: Shape) -> u8
-    ensures { result ≡ shape_no x }
+// 15 of an operand that has not its form.
+pub fn check_shape(shape: Result<Shape, usize>) -> Result<(), Refusal>
+    ensures { number_in result ≡ shape_no shape }
 {
-    match x {
-        Shape::Fails(_) => 15,
-        _ => 0,
+    match shape {
+        Ok(_) => Ok(()),
+        Err(_) => Err(Refusal::Malformed),
     }
 }

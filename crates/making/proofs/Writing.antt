@@ -1,4 +1,5 @@
 -- The record of what a card makes in bytes: how long it is, and those of the cards behind it.
+use Rattle.std.specs.Prelude.{Option}
 use Prim.Native.Nat.{ℕ, ◌+◌, ◌-◌, ◌*◌, ◌/◌, ◌%◌, ◌≤◌}
 use mathlib.Core.List.{List, [], ◌∷◌, ◌++◌}
 use mathlib.Core.Path.{◌≡◌, refl, sym, ap, ◌∙◌}
@@ -24,7 +25,7 @@ use Rattle.making.specs.Steps.{text_pieces, card_made, text_length, text_fields,
 use Rattle.making.proofs.Cards.{made-pieces}
 
 -- the pieces of a card are those of the text that it makes
-made-are : (look : ℕ → Meaning) (c : Course) (s : List ℕ) (x : Made) → x ≡ card_made look c s → card_pieces look c s ≡ text_pieces x.text (part s x.from (x.end - x.from))
+made-are : (look : ℕ → Option Meaning) (c : Course) (s : List ℕ) (x : Made) → x ≡ card_made look c s → card_pieces look c s ≡ text_pieces x.text (part s x.from (x.end - x.from))
 made-are look c s x e = made-pieces look c s ∙ ap (λ (y : Made). text_pieces y.text (part s y.from (y.end - y.from))) (sym e)
 
 -- TEXTS
@@ -85,10 +86,10 @@ record_some card address [] h = absurd (h refl)
 record_some card address (p ∷ ps) h = refl
 
 -- the record of what a card makes
-pub made_bytes : (look : ℕ → Meaning) (c : Course) (s : List ℕ) (x : Made) → x ≡ card_made look c s → (k : ℕ) → card_record k c.counter (card_pieces look c s) ≡ made_record k c.counter x s
+pub made_bytes : (look : ℕ → Option Meaning) (c : Course) (s : List ℕ) (x : Made) → x ≡ card_made look c s → (k : ℕ) → card_record k c.counter (card_pieces look c s) ≡ made_record k c.counter x s
 made_bytes look c s x e k = ap (card_record k c.counter) (made-are look c s x e)
 
-pub made-size : (look : ℕ → Meaning) (c : Course) (s : List ℕ) (x : Made) → x ≡ card_made look c s → MadeFits x s → (k : ℕ)
+pub made-size : (look : ℕ → Option Meaning) (c : Course) (s : List ℕ) (x : Made) → x ≡ card_made look c s → MadeFits x s → (k : ℕ)
     → length (card_record k c.counter (card_pieces look c s)) ≡ made_length x
 made-size look c s x e f k =
     let o = part s x.from (x.end - x.from) in
@@ -97,7 +98,7 @@ made-size look c s x e f k =
     (ap (λ ps. length (text_of ps)) is ∙ length-is x.text o f.text) (ap (λ ps. length (fields_of ps)) is ∙ ap length (fields-are x.text o))
 
 -- the record of the first card, and those behind it
-pub records-more : (look : ℕ → Meaning) (k : ℕ) (c : Course) (s : List ℕ) (ss : List (List ℕ))
+pub records-more : (look : ℕ → Option Meaning) (k : ℕ) (c : Course) (s : List ℕ) (ss : List (List ℕ))
     → records_bytes (card_records look k c (s ∷ ss)) ≡ card_record k c.counter (card_pieces look c s) ++ records_bytes (card_records look (k + 1) (step_two look c s) ss)
 unfolding card_records records_bytes
 records-more look k c s ss = go (card_pieces look c s) (card_records look (k + 1) (step_two look c s) ss)
@@ -106,6 +107,6 @@ records-more look k c s ss = go (card_pieces look c s) (card_records look (k + 1
     go [] rs = refl
     go (p ∷ ps) rs = refl
 
-pub records-none : (look : ℕ → Meaning) (k : ℕ) (c : Course) → records_bytes (card_records look k c []) ≡ []
+pub records-none : (look : ℕ → Option Meaning) (k : ℕ) (c : Course) → records_bytes (card_records look k c []) ≡ []
 unfolding card_records records_bytes
 records-none look k c = refl

@@ -1,9 +1,7 @@
 -- What a card makes, by the code's own types: its refusal, its text, its entry, its record in bytes.
-use Rattle.std.specs.Prelude.{ℕ, ◌+◌, ◌-◌, ◌≤◌, List, [], ◌∷◌, map, ◌≡◌, Bool, true, false, length}
+use Rattle.std.specs.Prelude.{Option, Some, None, ℕ, ◌+◌, ◌-◌, ◌≤◌, List, [], ◌∷◌, map, ◌≡◌, Bool, true, false, length, Result}
 use Rattle.values.specs.Words.{part}
-use Rattle.values.specs.declared.MaybeValue.{MaybeValue}
 use Rattle.names.specs.declared.Meaning.{Meaning}
-use Rattle.book.specs.declared.Entry.{Entry}
 use Rattle.statements.specs.declared.Statement.{Statement as Stated}
 use Rattle.book.specs.Writing.{record_bytes, record_length}
 use Rattle.data.specs.declared.DataType.{DataType}
@@ -16,7 +14,7 @@ use Rattle.data.specs.Text.{constant_text}
 use Rattle.forms.specs.declared.Shape.{Shape}
 use Rattle.forms.specs.Shape.{of_data}
 use Rattle.operands.specs.declared.Operands.{Operands}
-use Rattle.statements.specs.Statements.{statement_no, statement_from, bases_after, lone_value}
+use Rattle.statements.specs.Statements.{statement_from, bases_after, lone_value}
 use Rattle.encode.specs.Pieces.{Piece, text_of, fields_of, pieces_of}
 use Rattle.encode.specs.Pieces.Piece.{plain}
 use Rattle.lines.specs.declared.Line.{Line}
@@ -30,14 +28,14 @@ use Rattle.operations.specs.Traits.{role_of}
 use Rattle.passes.specs.Cards.{operands_at, counter_by}
 use Rattle.passes.specs.Two.{record_of_pieces, entry_by}
 use Rattle.making.specs.declared.Text.{Text}
-use Rattle.making.specs.declared.Sought.{Sought}
-use Rattle.making.specs.declared.Sought.TheVariants.{Open, Found}
 use Rattle.making.specs.declared.Made.{Made}
+use Rattle.values.specs.declared.Value.{Value}
+use Rattle.values.specs.declared.Relocatable.{Relocatable}
 
 -- WHAT A CARD MAKES
 
 -- behind a line whose expressions came to x, and its only expression to v
-abbrev pub course_by : Course → Line → Operands → MaybeValue → Course
+abbrev pub course_by : Course → Line → Operands → Option Value → Course
 course_by c l x v = record {
   counter = counter_by (role_of l.operation) v c.counter l;
   bases = bases_after l.operation x c.bases;
@@ -53,9 +51,9 @@ text_by Address d st = Text.Stated st
 -- DS makes none
 abbrev pub text_of_data : DataCard → DataType → Data → Stated → Text
 text_of_data Constant kind d st = text_by kind d st
-text_of_data Reserve kind d st = Text.Stated Stated.None
+text_of_data Reserve kind d st = Text.Stated Stated.NoBytes
 
-abbrev pub text_from : Shape → Stated → Text
+abbrev pub text_from : Result Shape ℕ → Stated → Text
 text_from x st = of_data x (λ d. text_of_data d.card d.kind d st) (Text.Stated st)
 
 -- the pieces of a text, over the columns of the operand
@@ -64,28 +62,23 @@ text_pieces (Text.Columns d) o = map plain (constant_text o d)
 text_pieces (Text.Stated st) o = pieces_of st
 
 -- the entry where END was met, else another
-abbrev pub entry_or : Sought → Entry → Entry
-entry_or Open rest = rest
-entry_or (Found e) rest = e
+abbrev pub entry_or : Option (Option Relocatable) → Option Relocatable → Option Relocatable
+entry_or None rest = rest
+entry_or (Some e) rest = e
 
-abbrev pub sought_by : Role → MaybeValue → Sought
-sought_by Starts v = Open
-sought_by Equates v = Open
-sought_by SetsCounter v = Open
-sought_by Ends v = Found (entry_by v)
-sought_by Advances v = Open
-
-abbrev pub first_of : Sought → Sought → Sought
-first_of Open b = b
-first_of (Found e) b = Found e
+abbrev pub sought_by : Role → Option Value → Option (Option Relocatable)
+sought_by Starts v = None
+sought_by Equates v = None
+sought_by SetsCounter v = None
+sought_by Ends v = Some (entry_by v)
+sought_by Advances v = None
 
 -- a card without a statement is not refused, and makes nothing
 abbrev pub made_none : Course → Made
-made_none c = record { number = 0; text = Text.Stated Stated.None; from = 0; end = 0; entry = Open; course = c }
+made_none c = record { text = Text.Stated Stated.NoBytes; from = 0; end = 0; entry = None; course = c }
 
 abbrev pub made_by : Course → Line → Operands → Made
 made_by c l x = record {
-  number = statement_no l.operation x c.counter c.bases;
   text = text_from l.shape (statement_from l.operation x c.counter c.bases);
   from = l.operand;
   end = l.end;
@@ -93,12 +86,12 @@ made_by c l x = record {
   course = course_by c l x (lone_value x);
 }
 
-abbrev pub reading_made : (ℕ → Meaning) → Course → List ℕ → Reading → Made
+abbrev pub reading_made : (ℕ → Option Meaning) → Course → List ℕ → Reading → Made
 reading_made look c s Comment = made_none c
 reading_made look c s BadName = made_none c
 reading_made look c s (Statement l) = made_by c l (operands_at look c.counter s l)
 
-unfoldable pub card_made : (ℕ → Meaning) → Course → List ℕ → Made
+unfoldable pub card_made : (ℕ → Option Meaning) → Course → List ℕ → Made
 card_made look c s = reading_made look c s (reading_of s)
 
 -- SIZES

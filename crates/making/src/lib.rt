@@ -3,161 +3,94 @@
 
 pub mod records;
 
-ghost use Rattle.std.specs.Prelude.{◌≡◌, true, ◌+◌, ◌*◌, ◌^◌, ◌≤◌, ◌<◌, length};
-ghost use Rattle.names.specs.Names.{find, ascending};
-ghost use Rattle.names.specs.Table.{names_in};
+ghost use Rattle.std.specs.Prelude.{◌≡◌, true, ◌+◌, ◌^◌, ◌<◌, IfOk};
+ghost use Rattle.values.specs.Refusals.{number_in};
+ghost use Rattle.names.specs.Names.{find};
 ghost use Rattle.forms.specs.Size.{size_of};
 ghost use Rattle.lines.specs.declared.Reading.TheVariants.{Statement as Stated};
 ghost use Rattle.lines.specs.Lines.{reading_of};
 ghost use Rattle.passes.specs.Sound.{sound_reading};
-ghost use Rattle.passes.specs.Two.{entry_by};
-ghost use Rattle.book.specs.declared.Entry.TheVariants.{Absent};
-ghost use Rattle.making.specs.Steps.{course_by, text_by, text_of_data, text_from, entry_or, sought_by, first_of, reading_made, made_none, card_made};
+ghost use Rattle.passes.specs.Two.{reading_two_no, two_no};
+ghost use Rattle.making.specs.Steps.{course_by, text_from, sought_by, reading_made, made_none, card_made};
 
-use book::Entry;
 use data::{Data, DataCard, DataType};
 use forms::Shape;
 use lines::{Line, Reading, read_line};
+use names::lookup::Names;
 use operands::Operands;
 use operations::traits::{Role, role_of};
 use passes::{Course, counter_by, operands_at};
-use statements::{Statement, bases_after, lone_value, statement_from, statement_no};
-use values::{MaybeRelocatable, MaybeValue, only_relocatable};
+use statements::{Statement, bases_after, check_statement, lone_value, statement_from};
+use values::refusals::Refusal;
+use values::{Relocatable, Value, only_relocatable};
 
 // The columns of a constant of type C, X or D, or a statement.
-#[derive(Clone, Copy)]
+#[derive(Clone, Copy, Debug, PartialEq, Eq)]
 pub enum Text {
     Columns(Data),
     Stated(Statement),
 }
 
-// The entry: END is not met yet, or it said this.
-#[derive(Clone, Copy)]
-pub enum Sought {
-    Open,
-    Found(Entry),
-}
-
-// What a card makes. `number`: its refusal, or 0. `from` and `end`: where the columns of its operand start and end.
-#[derive(Clone, Copy)]
+// What a card makes. `from` and `end`: where the columns of its operand start and end; `entry`: what END says of it.
+#[derive(Clone, Copy, Debug, PartialEq, Eq)]
 pub struct Made {
-    pub number: u8,
     pub text: Text,
     pub from: usize,
     pub end: usize,
-    pub entry: Sought,
+    pub entry: Option<Option<Relocatable>>,
     pub course: Course,
 }
 
 // Where pass two stands behind a line whose expressions came to x, and its only expression to v.
-fn course_after(c: Course, l: Line, x: Operands, v: MaybeValue) -> Course
+fn course_after(c: Course, l: Line, x: Operands, v: Option<Value>) -> Course
     requires { c.counter + size_of l.operation l.shape < 2 ^ 32 }
     ensures { result ≡ course_by c l x v }
 {
-    let operation = l.operation;
-    let bases = c.bases;
-    let counter = counter_by(role_of(operation), v, c.counter, l);
-    let behind = bases_after(operation, x, bases);
     Course {
-        counter: counter,
-        bases: behind,
+        counter: counter_by(role_of(l.operation), v, c.counter, l),
+        bases: bases_after(l.operation, x, c.bases),
     }
 }
 
-fn text_by(kind: DataType, d: Data, st: Statement) -> Text
-    ensures { result ≡ text_by kind d st }
-{
-    match kind {
-        DataType::Address => Text::Stated(st),
-        _ => Text::Columns(d),
-    }
-}
-
-// Of a data card: DS makes none.
-fn text_of(card: DataCard, kind: DataType, d: Data, st: Statement) -> Text
-    ensures { result ≡ text_of_data card kind d st }
-{
-    match card {
-        DataCard::Constant => text_by(kind, d, st),
-        DataCard::Reserve => Text::Stated(Statement::None),
-    }
-}
-
-// Where the text of a line comes from.
-fn text_from(shape: Shape, st: Statement) -> Text
+// Where the text of a line comes from. DS makes none.
+fn text_from(shape: Result<Shape, usize>, st: Statement) -> Text
     ensures { result ≡ text_from shape st }
 {
     match shape {
-        Shape::Data(d) => {
-            let card = d.card;
-            let kind = d.kind;
-            text_of(card, kind, d, st)
-        }
+        Ok(Shape::Data(d)) => match (d.card, d.kind) {
+            (DataCard::Reserve, _) => Text::Stated(Statement::NoBytes),
+            (DataCard::Constant, DataType::Address) => Text::Stated(st),
+            (DataCard::Constant, _) => Text::Columns(d),
+        },
         _ => Text::Stated(st),
     }
 }
 
-fn entry_by(v: MaybeValue) -> Entry
-    ensures { result ≡ entry_by v }
-{
-    match only_relocatable(v) {
-        MaybeRelocatable::Is(a) => Entry::At(a),
-        MaybeRelocatable::Nothing => Entry::Absent,
-    }
-}
-
-fn sought_by(role: Role, v: MaybeValue) -> Sought
+// What END says of the entry.
+fn entry_said(role: Role, v: Option<Value>) -> Option<Option<Relocatable>>
     ensures { result ≡ sought_by role v }
 {
     match role {
-        Role::Ends => Sought::Found(entry_by(v)),
-        _ => Sought::Open,
+        Role::Ends => Some(only_relocatable(v)),
+        _ => None,
     }
 }
 
-// The first END's entry counts.
-pub fn first_of(a: Sought, b: Sought) -> Sought
-    ensures { result ≡ first_of a b }
+fn make_line(c: Course, l: Line, card: &[u8], names: &Names) -> Result<Made, Refusal>
+    requires { (reading_of card.now ≡ Stated l) × (c.counter + size_of l.operation l.shape < 2 ^ 32) }
+    ensures number { number_in result ≡ reading_two_no (find names.now) c card.now (Stated l) }
+    ensures made { IfOk result (λ m. m ≡ reading_made (find names.now) c card.now (Stated l)) }
 {
-    match a {
-        Sought::Open => b,
-        Sought::Found(_) => a,
-    }
-}
-
-// The entry behind all cards.
-pub fn entry_in(a: Sought) -> Entry
-    ensures { result ≡ entry_or a Absent }
-{
-    match a {
-        Sought::Open => Entry::Absent,
-        Sought::Found(e) => e,
-    }
-}
-
-fn make_line(c: Course, l: Line, card: &[u8], table: &[u8], count: usize) -> Made
-    requires card_value { (reading_of card.now ≡ Stated l) × (c.counter + size_of l.operation l.shape < 2 ^ 32) }
-    requires count_in_bounds { (16 * count ≤ length table.now) × (ascending (names_in count table.now) ≡ true) }
-    ensures { result ≡ reading_made (find (names_in count table.now)) c card.now (Stated l) }
-{
-    let operation = l.operation;
-    let shape = l.shape;
-    let counter = c.counter;
-    let bases = c.bases;
-    let x = operands_at(l, card, table, count, counter);
-    let number = statement_no(operation, x, counter, bases);
-    let text = text_from(shape, statement_from(operation, x, counter, bases));
+    let x = operands_at(l, card, names, c.counter);
+    check_statement(l.operation, x, c.counter, c.bases)?;
     let v = lone_value(x);
-    let entry = sought_by(role_of(operation), v);
-    let course = course_after(c, l, x, v);
-    Made {
-        number: number,
-        text: text,
+    Ok(Made {
+        text: text_from(l.shape, statement_from(l.operation, x, c.counter, c.bases)),
         from: l.operand,
         end: l.end,
-        entry: entry,
-        course: course,
-    }
+        entry: entry_said(role_of(l.operation), v),
+        course: course_after(c, l, x, v),
+    })
 }
 
 // A comment is not refused, and makes nothing.
@@ -165,25 +98,23 @@ fn make_none(c: Course) -> Made
     ensures { result ≡ made_none c }
 {
     Made {
-        number: 0,
-        text: Text::Stated(Statement::None),
+        text: Text::Stated(Statement::NoBytes),
         from: 0,
         end: 0,
-        entry: Sought::Open,
+        entry: None,
         course: c,
     }
 }
 
-// What a card makes, over the names of a table.
-#[tactic(auto, unfolding(crate::specs::Steps::card_made))]
-pub fn make_card(c: Course, card: &[u8], table: &[u8], count: usize) -> Made
-    requires card_value { (sound_reading (reading_of card.now) ≡ true) × (c.counter + 65536 < 2 ^ 32) }
-    requires count_in_bounds { (16 * count ≤ length table.now) × (ascending (names_in count table.now) ≡ true) }
-    ensures { result ≡ card_made (find (names_in count table.now)) c card.now }
+// What a card makes, over the names, or its refusal 18 to 23.
+#[tactic(auto, unfolding(crate::specs::Steps::card_made, passes::specs::Two::two_no))]
+pub fn make_card(c: Course, card: &[u8], names: &Names) -> Result<Made, Refusal>
+    requires { (sound_reading (reading_of card.now) ≡ true) × (c.counter + 65536 < 2 ^ 32) }
+    ensures number { number_in result ≡ two_no (find names.now) c card.now }
+    ensures made { IfOk result (λ m. m ≡ card_made (find names.now) c card.now) }
 {
     match read_line(card) {
-        Reading::Comment => make_none(c),
-        Reading::BadName => make_none(c),
-        Reading::Statement(l) => make_line(c, l, card, table, count),
+        Reading::Statement(l) => make_line(c, l, card, names),
+        Reading::Comment | Reading::BadName => Ok(make_none(c)),
     }
 }

@@ -46,7 +46,7 @@ fn put_text_fields(t: Text, m: &mut [u8], to: usize)
 
 fn put_text_bytes(t: Text, o: &[u8], m: &mut [u8], to: usize)
     requires text_fits { TextFits t o.now }
-    requires t_in_bounds { to + text_length t ≤ length m.old }
+    requires room { to + text_length t ≤ length m.old }
     ensures { m.new ≡ sets m.old to (text_of (text_pieces t o.now)) }
 {
     match t {
@@ -58,7 +58,7 @@ fn put_text_bytes(t: Text, o: &[u8], m: &mut [u8], to: usize)
 // The record of a text that has a byte.
 fn put_record(t: Text, o: &[u8], card: u16, address: u32, m: &mut [u8], to: usize)
     requires text_fits { TextFits t o.now }
-    requires t_in_bounds { to + (record_head + length (text_fields t) + text_length t) ≤ length m.old }
+    requires room { to + (record_head + length (text_fields t) + text_length t) ≤ length m.old }
     ensures { m.new ≡ sets m.old to (record_bytes (record_of_pieces card address (text_pieces t o.now))) }
 {
     let size = text_length(t);
@@ -88,19 +88,13 @@ pub fn put_made(
     to: usize,
 ) -> usize
     requires made_fits { MadeFits x s.now × (to + 391 < 2 ^ 32) }
-    requires x_in_bounds { writes ≡ true → to + made_length x ≤ length m.old }
+    requires room { writes ≡ true → to + made_length x ≤ length m.old }
     ensures value { (result ≡ to + made_length x) × (result ≤ to + 391) }
     ensures m_after { m.new ≡ sets m.old to (laid_if writes (made_record card address x s.now)) }
 {
-    let text = x.text;
-    let from = x.from;
-    let end = x.end;
-    let size = text_length(text);
-    let behind = to + record_length(size, text_count(text));
-    if writes {
-        if size != 0 {
-            put_record(text, &s[from..end], card, address, m, to);
-        }
+    let size = text_length(x.text);
+    if writes && size != 0 {
+        put_record(x.text, &s[x.from..x.end], card, address, m, to);
     }
-    behind
+    to + record_length(size, text_count(x.text))
 }

@@ -7,10 +7,9 @@ ghost use Rattle.passes.specs.Assembly.{assembling};
 ghost use Rattle.mersclund.specs.Packed.{packed_refusal, packed_entry, packed_load, packed_assembled};
 
 use assemble::assemble_cards;
-use book::Entry;
-use load::{Loaded, load_book};
-use passes::Assembled;
-use values::Displacement;
+use load::{LoadError, Stored, load_book};
+use passes::{Assembled, Refused};
+use values::{Displacement, Relocatable};
 
 // A bit of a packed answer: what is multiplied by it stands from that bit on.
 const BIT_32: u64 = 4294967296;
@@ -22,26 +21,26 @@ const BIT_56: u64 = 72057594037927936;
 fn pack_refusal(number: u8, card: u16) -> u64
     ensures { result ≡ packed_refusal number card }
 {
-    number as u64 * BIT_56 + card as u64
+    u64::from(number) * BIT_56 + u64::from(card)
 }
 
-fn pack_entry(entry: Entry) -> u64
+fn pack_entry(entry: Option<Relocatable>) -> u64
     ensures { (result ≡ packed_entry entry) × (result < 2 ^ 49) }
 {
     match entry {
-        Entry::Absent => 0,
-        Entry::At(start) => BIT_48 + start.0 as u64 * BIT_32,
+        None => 0,
+        Some(start) => BIT_48 + u64::from(start.0) * BIT_32,
     }
 }
 
-fn pack_load(answer: Loaded) -> u64
+fn pack_load(answer: Result<Stored, LoadError>) -> u64
     ensures { result ≡ packed_load answer }
 {
     match answer {
-        Loaded::Stored(bytes, entry) => bytes as u64 + pack_entry(entry),
-        Loaded::Broken => pack_refusal(50, 0),
-        Loaded::Outside(card) => pack_refusal(51, card),
-        Loaded::Over(card) => pack_refusal(52, card),
+        Ok(stored) => u64::from(stored.bytes) + pack_entry(stored.entry),
+        Err(LoadError::Broken) => pack_refusal(50, 0),
+        Err(LoadError::Outside(card)) => pack_refusal(51, card),
+        Err(LoadError::Over(card)) => pack_refusal(52, card),
     }
 }
 
@@ -53,12 +52,12 @@ pub fn mersclund_load(book: &[u8], displacement: u16, storage: &mut [u8]) -> u64
     pack_load(load_book(book, Displacement::by(displacement), storage))
 }
 
-fn pack_assembled(answer: Assembled) -> u64
+fn pack_assembled(answer: Result<Assembled, Refused>) -> u64
     ensures { result ≡ packed_assembled answer }
 {
     match answer {
-        Assembled::Made(length, names) => length as u64 + names as u64 * BIT_32,
-        Assembled::Refused(number, card) => pack_refusal(number, card),
+        Ok(made) => u64::from(made.length) + u64::from(made.names) * BIT_32,
+        Err(refused) => pack_refusal(refused.number, refused.card),
     }
 }
 

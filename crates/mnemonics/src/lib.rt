@@ -1,180 +1,110 @@
 // The operation table of a Model 10: the operation that a card's letters name.
 #![tactic(auto)]
 
-ghost use Rattle.std.specs.Prelude.{◌≡◌, ◌-◌, ◌<◌, length, get_or};
-ghost use Rattle.operations.specs.declared.Operation.TheVariants.{Unknown};
+ghost use Rattle.std.specs.Prelude.{◌≡◌, ◌-◌};
 ghost use Rattle.mnemonics.specs.Rows.{number5, operation_in, word_letter, word_number, operation_at};
 ghost use Rattle.mnemonics.specs.Model10.{model10};
-ghost use Rattle.mnemonics.specs.Sorted.{row_in, Rising, sorted_letters, sorted_operations};
 
 use operations::Operation;
-use values::words::wide64;
 
-// How many mnemonics there are.
-const ROWS: usize = 75;
-
-// The mnemonics, in the order of their letters.
-const LETTERS: [[u8; 5]; ROWS] = [
-    *b"A    ", *b"ALC  ", *b"AZ   ", *b"B    ", *b"BC   ", *b"BE   ", *b"BF   ", *b"BH   ",
-    *b"BL   ", *b"BM   ", *b"BNE  ", *b"BNH  ", *b"BNL  ", *b"BNM  ", *b"BNOL ", *b"BNOZ ",
-    *b"BNP  ", *b"BNZ  ", *b"BOL  ", *b"BOZ  ", *b"BP   ", *b"BT   ", *b"BZ   ", *b"CLC  ",
-    *b"CLI  ", *b"DC   ", *b"DROP ", *b"DS   ", *b"ED   ", *b"END  ", *b"EQU  ", *b"ITC  ",
-    *b"J    ", *b"JC   ", *b"JE   ", *b"JF   ", *b"JH   ", *b"JL   ", *b"JM   ", *b"JNE  ",
-    *b"JNH  ", *b"JNL  ", *b"JNM  ", *b"JNOL ", *b"JNOZ ", *b"JNP  ", *b"JNZ  ", *b"JOL  ",
-    *b"JOZ  ", *b"JP   ", *b"JT   ", *b"JZ   ", *b"L    ", *b"LA   ", *b"LIO  ", *b"MNN  ",
-    *b"MNZ  ", *b"MVC  ", *b"MVI  ", *b"MVX  ", *b"MZN  ", *b"MZZ  ", *b"ORG  ", *b"SBF  ",
-    *b"SBN  ", *b"SLC  ", *b"SNS  ", *b"ST   ", *b"START", *b"SZ   ", *b"TBF  ", *b"TBN  ",
-    *b"TIO  ", *b"USING", *b"ZAZ  ",
+// The mnemonics, in the order of their letters, and what each of them stands for.
+const ROWS: [([u8; 5], Operation); 75] = [
+    (*b"A    ", Operation::OneAddress(0x6)),
+    (*b"ALC  ", Operation::OneLength(0xE)),
+    (*b"AZ   ", Operation::TwoLengths(0x6)),
+    (*b"B    ", Operation::BranchOn(0x87)),
+    (*b"BC   ", Operation::Branch(0x0)),
+    (*b"BE   ", Operation::BranchOn(0x81)),
+    (*b"BF   ", Operation::BranchOn(0x90)),
+    (*b"BH   ", Operation::BranchOn(0x84)),
+    (*b"BL   ", Operation::BranchOn(0x82)),
+    (*b"BM   ", Operation::BranchOn(0x82)),
+    (*b"BNE  ", Operation::BranchOn(0x01)),
+    (*b"BNH  ", Operation::BranchOn(0x04)),
+    (*b"BNL  ", Operation::BranchOn(0x02)),
+    (*b"BNM  ", Operation::BranchOn(0x02)),
+    (*b"BNOL ", Operation::BranchOn(0x20)),
+    (*b"BNOZ ", Operation::BranchOn(0x08)),
+    (*b"BNP  ", Operation::BranchOn(0x04)),
+    (*b"BNZ  ", Operation::BranchOn(0x01)),
+    (*b"BOL  ", Operation::BranchOn(0xA0)),
+    (*b"BOZ  ", Operation::BranchOn(0x88)),
+    (*b"BP   ", Operation::BranchOn(0x84)),
+    (*b"BT   ", Operation::BranchOn(0x10)),
+    (*b"BZ   ", Operation::BranchOn(0x81)),
+    (*b"CLC  ", Operation::OneLength(0xD)),
+    (*b"CLI  ", Operation::OneAddress(0xD)),
+    (*b"DC   ", Operation::Dc),
+    (*b"DROP ", Operation::Drop),
+    (*b"DS   ", Operation::Ds),
+    (*b"ED   ", Operation::OneLength(0xA)),
+    (*b"END  ", Operation::End),
+    (*b"EQU  ", Operation::Equ),
+    (*b"ITC  ", Operation::OneLength(0xB)),
+    (*b"J    ", Operation::JumpOn(0x87)),
+    (*b"JC   ", Operation::Jump),
+    (*b"JE   ", Operation::JumpOn(0x81)),
+    (*b"JF   ", Operation::JumpOn(0x90)),
+    (*b"JH   ", Operation::JumpOn(0x84)),
+    (*b"JL   ", Operation::JumpOn(0x82)),
+    (*b"JM   ", Operation::JumpOn(0x82)),
+    (*b"JNE  ", Operation::JumpOn(0x01)),
+    (*b"JNH  ", Operation::JumpOn(0x04)),
+    (*b"JNL  ", Operation::JumpOn(0x02)),
+    (*b"JNM  ", Operation::JumpOn(0x02)),
+    (*b"JNOL ", Operation::JumpOn(0x20)),
+    (*b"JNOZ ", Operation::JumpOn(0x08)),
+    (*b"JNP  ", Operation::JumpOn(0x04)),
+    (*b"JNZ  ", Operation::JumpOn(0x01)),
+    (*b"JOL  ", Operation::JumpOn(0xA0)),
+    (*b"JOZ  ", Operation::JumpOn(0x88)),
+    (*b"JP   ", Operation::JumpOn(0x84)),
+    (*b"JT   ", Operation::JumpOn(0x10)),
+    (*b"JZ   ", Operation::JumpOn(0x81)),
+    (*b"L    ", Operation::OneAddress(0x5)),
+    (*b"LA   ", Operation::LoadAddress),
+    (*b"LIO  ", Operation::OneAddress(0x1)),
+    (*b"MNN  ", Operation::HalfBytesOf(0x03)),
+    (*b"MNZ  ", Operation::HalfBytesOf(0x02)),
+    (*b"MVC  ", Operation::OneLength(0xC)),
+    (*b"MVI  ", Operation::OneAddress(0xC)),
+    (*b"MVX  ", Operation::HalfBytes),
+    (*b"MZN  ", Operation::HalfBytesOf(0x01)),
+    (*b"MZZ  ", Operation::HalfBytesOf(0x00)),
+    (*b"ORG  ", Operation::Org),
+    (*b"SBF  ", Operation::OneAddress(0xB)),
+    (*b"SBN  ", Operation::OneAddress(0xA)),
+    (*b"SLC  ", Operation::OneLength(0xF)),
+    (*b"SNS  ", Operation::OneAddress(0x0)),
+    (*b"ST   ", Operation::OneAddress(0x4)),
+    (*b"START", Operation::Start),
+    (*b"SZ   ", Operation::TwoLengths(0x7)),
+    (*b"TBF  ", Operation::OneAddress(0x9)),
+    (*b"TBN  ", Operation::OneAddress(0x8)),
+    (*b"TIO  ", Operation::Branch(0x1)),
+    (*b"USING", Operation::Using),
+    (*b"ZAZ  ", Operation::TwoLengths(0x4)),
 ];
 
-// What each of them stands for.
-const OPERATIONS: [Operation; ROWS] = [
-    Operation::OneAddress(0x6),
-    Operation::OneLength(0xE),
-    Operation::TwoLengths(0x6),
-    Operation::BranchOn(0x87),
-    Operation::Branch(0x0),
-    Operation::BranchOn(0x81),
-    Operation::BranchOn(0x90),
-    Operation::BranchOn(0x84),
-    Operation::BranchOn(0x82),
-    Operation::BranchOn(0x82),
-    Operation::BranchOn(0x01),
-    Operation::BranchOn(0x04),
-    Operation::BranchOn(0x02),
-    Operation::BranchOn(0x02),
-    Operation::BranchOn(0x20),
-    Operation::BranchOn(0x08),
-    Operation::BranchOn(0x04),
-    Operation::BranchOn(0x01),
-    Operation::BranchOn(0xA0),
-    Operation::BranchOn(0x88),
-    Operation::BranchOn(0x84),
-    Operation::BranchOn(0x10),
-    Operation::BranchOn(0x81),
-    Operation::OneLength(0xD),
-    Operation::OneAddress(0xD),
-    Operation::Dc,
-    Operation::Drop,
-    Operation::Ds,
-    Operation::OneLength(0xA),
-    Operation::End,
-    Operation::Equ,
-    Operation::OneLength(0xB),
-    Operation::JumpOn(0x87),
-    Operation::Jump,
-    Operation::JumpOn(0x81),
-    Operation::JumpOn(0x90),
-    Operation::JumpOn(0x84),
-    Operation::JumpOn(0x82),
-    Operation::JumpOn(0x82),
-    Operation::JumpOn(0x01),
-    Operation::JumpOn(0x04),
-    Operation::JumpOn(0x02),
-    Operation::JumpOn(0x02),
-    Operation::JumpOn(0x20),
-    Operation::JumpOn(0x08),
-    Operation::JumpOn(0x04),
-    Operation::JumpOn(0x01),
-    Operation::JumpOn(0xA0),
-    Operation::JumpOn(0x88),
-    Operation::JumpOn(0x84),
-    Operation::JumpOn(0x10),
-    Operation::JumpOn(0x81),
-    Operation::OneAddress(0x5),
-    Operation::LoadAddress,
-    Operation::OneAddress(0x1),
-    Operation::HalfBytesOf(0x03),
-    Operation::HalfBytesOf(0x02),
-    Operation::OneLength(0xC),
-    Operation::OneAddress(0xC),
-    Operation::HalfBytes,
-    Operation::HalfBytesOf(0x01),
-    Operation::HalfBytesOf(0x00),
-    Operation::Org,
-    Operation::OneAddress(0xB),
-    Operation::OneAddress(0xA),
-    Operation::OneLength(0xF),
-    Operation::OneAddress(0x0),
-    Operation::OneAddress(0x4),
-    Operation::Start,
-    Operation::TwoLengths(0x7),
-    Operation::OneAddress(0x9),
-    Operation::OneAddress(0x8),
-    Operation::Branch(0x1),
-    Operation::Using,
-    Operation::TwoLengths(0x4),
-];
-
-#[tactic(auto, unfolding(crate::specs::Rows::number5))]
-fn number_of(t: [u8; 5]) -> u64
-    ensures { result ≡ number5 t }
+// The operation of a mnemonic.
+fn operation_of(letters: [u8; 5]) -> Operation
+    ensures { result ≡ operation_in model10 (number5 letters) }
 {
-    let a = wide64(t[0]);
-    let b = wide64(t[1]);
-    let c = wide64(t[2]);
-    let d = wide64(t[3]);
-    let e = wide64(t[4]);
-    (((a * 256 + b) * 256 + c) * 256 + d) * 256 + e
-}
-
-// The row with a number, by halving; the number of rows where there is none.
-fn find_row(rows: &[[u8; 5]], key: u64) -> usize
-    requires { Rising rows.now }
-    ensures { result ≡ row_in rows.now key }
-{
-    let mut low: usize = 0;
-    let mut high = rows.len();
-    while low < high {
-        let middle = low + (high - low) / 2;
-        let k = number_of(rows[middle]);
-        if k == key {
-            return middle;
-        }
-        if k < key {
-            low = middle + 1;
-        } else {
-            high = middle;
-        }
+    let rows = &ROWS;
+    let mnemonic = |row: &([u8; 5], Operation)| -> [u8; 5]
+        ensures { result ≡ row.now.0 }
+    { row.0 };
+    match rows.binary_search_by_key(&letters, mnemonic) {
+        Ok(i) => rows[i].1,
+        Err(_) => Operation::Unknown,
     }
-    rows.len()
-}
-
-fn row_of(key: u64) -> usize
-    ensures { result ≡ row_in sorted_letters key }
-{
-    let rows = LETTERS;
-    find_row(&rows, key)
-}
-
-fn operation_in(row: usize) -> Operation
-    ensures { result ≡ get_or sorted_operations row Unknown }
-{
-    if ROWS <= row {
-        return Operation::Unknown;
-    }
-    let operations = OPERATIONS;
-    let o = operations[row];
-    o
-}
-
-fn operation_of(key: u64) -> Operation
-    ensures { result ≡ operation_in model10 key }
-{
-    operation_in(row_of(key))
-}
-
-fn word_size(from: usize, to: usize) -> usize
-    ensures { result ≡ to - from }
-{
-    if from < to { to - from } else { 0 }
 }
 
 #[tactic(auto, unfolding(crate::specs::Rows::word_letter))]
 fn word_letter(s: &[u8], from: usize, to: usize, k: usize) -> u8
     ensures { result ≡ word_letter s.now from to k }
 {
-    if k < word_size(from, to) {
+    if k < to.saturating_sub(from) {
         letters::byte_at(s, from + k)
     } else {
         b' '
@@ -182,15 +112,16 @@ fn word_letter(s: &[u8], from: usize, to: usize, k: usize) -> u8
 }
 
 #[tactic(auto, unfolding(crate::specs::Rows::word_number))]
-fn word_number(s: &[u8], from: usize, to: usize) -> u64
-    ensures { result ≡ word_number s.now from to }
+fn word_letters(s: &[u8], from: usize, to: usize) -> [u8; 5]
+    ensures { number5 result ≡ word_number s.now from to }
 {
-    let a = word_letter(s, from, to, 0);
-    let b = word_letter(s, from, to, 1);
-    let c = word_letter(s, from, to, 2);
-    let d = word_letter(s, from, to, 3);
-    let e = word_letter(s, from, to, 4);
-    number_of([a, b, c, d, e])
+    [
+        word_letter(s, from, to, 0),
+        word_letter(s, from, to, 1),
+        word_letter(s, from, to, 2),
+        word_letter(s, from, to, 3),
+        word_letter(s, from, to, 4),
+    ]
 }
 
 // The operation whose letters stand between two positions of a card.
@@ -198,8 +129,9 @@ fn word_number(s: &[u8], from: usize, to: usize) -> u64
 pub fn operation_at(s: &[u8], from: usize, to: usize) -> Operation
     ensures { result ≡ operation_at model10 s.now from to }
 {
-    if 5 < word_size(from, to) {
-        return Operation::Unknown;
+    if to.saturating_sub(from) <= 5 {
+        operation_of(word_letters(s, from, to))
+    } else {
+        Operation::Unknown
     }
-    operation_of(word_number(s, from, to))
 }

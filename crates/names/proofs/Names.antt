@@ -1,4 +1,5 @@
 -- Laws of the names as a list: finding after defining, raising, order and place.
+use Rattle.std.specs.Prelude.{Option, Some, None}
 use Prim.Native.Nat.{ℕ, zero, suc, ◌+◌, ◌≤◌, ◌<◌}
 use mathlib.Core.List.{List, [], ◌∷◌, ◌++◌, map}
 use mathlib.Core.Bool.{Bool, true, false}
@@ -11,7 +12,7 @@ use Rattle.values.specs.Tests.{pick}
 use Rattle.values.proofs.Laws.{clash, both_true}
 use Rattle.names.specs.declared.Name.{Name}
 use Rattle.names.specs.declared.Meaning.{Meaning}
-use Rattle.names.specs.declared.Meaning.TheVariants.{Known, Unknown}
+use Rattle.names.specs.Names.{meaning}
 use Rattle.names.specs.Names.{find, defined, above, ascending, refusal_of, name_refusal}
 use Rattle.names.specs.Steps.{below}
 use Rattle.names.specs.Raised.{raised_meaning, raised_name}
@@ -19,18 +20,18 @@ use Rattle.names.specs.Raised.{raised_meaning, raised_name}
 -- FINDING
 
 -- after a name is defined, its number stands for it and every other number for what it stood for before
-pub find-defined : (x : Name) (ns : List Name) (k : ℕ) → find (defined x ns) k ≡ pick (eqb x.number k) (Known x.value x.length) (find ns k)
+pub find-defined : (x : Name) (ns : List Name) (k : ℕ) → find (defined x ns) k ≡ pick (eqb x.number k) (Some (meaning x.value x.length)) (find ns k)
 unfolding find defined
 find-defined x [] k = refl
 find-defined x (y ∷ ys) k = go (find-defined x ys k) (ltb y.number x.number) refl
   where
-    swap : (a b : Bool) → eqb y.number k ≡ a → eqb x.number k ≡ b → y.number < x.number → (e f g : Meaning) → pick a e (pick b f g) ≡ pick b f (pick a e g)
+    swap : (a b : Bool) → eqb y.number k ≡ a → eqb x.number k ≡ b → y.number < x.number → (e f g : Option Meaning) → pick a e (pick b f g) ≡ pick b f (pick a e g)
     swap true true p q h e f g = let p' = eqb-true y.number k p in let q' = eqb-true x.number k q in absurd (omega arith)
     swap true false p q h e f g = refl
     swap false b p q h e f g = refl
 
-    go : find (defined x ys) k ≡ pick (eqb x.number k) (Known x.value x.length) (find ys k) → (b : Bool) → ltb y.number x.number ≡ b
-        → find (pick b (y ∷ defined x ys) (x ∷ y ∷ ys)) k ≡ pick (eqb x.number k) (Known x.value x.length) (find (y ∷ ys) k)
+    go : find (defined x ys) k ≡ pick (eqb x.number k) (Some (meaning x.value x.length)) (find ys k) → (b : Bool) → ltb y.number x.number ≡ b
+        → find (pick b (y ∷ defined x ys) (x ∷ y ∷ ys)) k ≡ pick (eqb x.number k) (Some (meaning x.value x.length)) (find (y ∷ ys) k)
     go ih true h = rw ih (swap (eqb y.number k) (eqb x.number k) refl refl (ltb-true y.number x.number h) _ _ _)
     go ih false h = refl
 
@@ -51,7 +52,7 @@ unfolding find
 find-raised d [] k = refl
 find-raised d (x ∷ xs) k = rw (find-raised d xs k) (go (eqb x.number k))
   where
-    go : (b : Bool) → pick b (raised_meaning d (Known x.value x.length)) (raised_meaning d (find xs k)) ≡ raised_meaning d (pick b (Known x.value x.length) (find xs k))
+    go : (b : Bool) → pick b (raised_meaning d (Some (meaning x.value x.length))) (raised_meaning d (find xs k)) ≡ raised_meaning d (pick b (Some (meaning x.value x.length)) (find xs k))
     go true = refl
     go false = refl
 
@@ -68,15 +69,15 @@ defined-raised d x (y ∷ ys) = go (defined-raised d x ys) (ltb y.number x.numbe
 -- REFUSALS 16 AND 17
 
 -- a name that is not refused is not defined yet, and there is room for it
-pub refusal_none : (limit : ℕ) (ns : List Name) (k : ℕ) → name_refusal limit ns k ≡ 0 → (find ns k ≡ Unknown) × (length ns < limit)
+pub refusal_none : (limit : ℕ) (ns : List Name) (k : ℕ) → name_refusal limit ns k ≡ 0 → (find ns k ≡ None) × (length ns < limit)
 unfolding name_refusal
 refusal_none limit ns k e = go (find ns k) refl e
   where
-    go : (x : Meaning) → find ns k ≡ x → refusal_of limit (length ns) x ≡ 0 → (find ns k ≡ Unknown) × (length ns < limit)
-    go (Known v l) h q = absurd (omega arith)
-    go Unknown h q = at (ltb (length ns) limit) refl q
+    go : (x : Option Meaning) → find ns k ≡ x → refusal_of limit (length ns) x ≡ 0 → (find ns k ≡ None) × (length ns < limit)
+    go (Some m) h q = absurd (omega arith)
+    go None h q = at (ltb (length ns) limit) refl q
       where
-        at : (b : Bool) → ltb (length ns) limit ≡ b → pick {X = ℕ} b 0 17 ≡ 0 → (find ns k ≡ Unknown) × (length ns < limit)
+        at : (b : Bool) → ltb (length ns) limit ≡ b → pick {X = ℕ} b 0 17 ≡ 0 → (find ns k ≡ None) × (length ns < limit)
         at true p r = (h, ltb-true (length ns) limit p)
         at false p r = absurd (omega arith)
 
@@ -85,9 +86,9 @@ pub refusal_raised : (d limit : ℕ) (ns : List Name) (k : ℕ) → name_refusal
 unfolding name_refusal
 refusal_raised d limit ns k = rw (find-raised d ns k, length-map ns (raised_name d)) (go (find ns k))
   where
-    go : (e : Meaning) → refusal_of limit (length ns) (raised_meaning d e) ≡ refusal_of limit (length ns) e
-    go (Known v l) = refl
-    go Unknown = refl
+    go : (e : Option Meaning) → refusal_of limit (length ns) (raised_meaning d e) ≡ refusal_of limit (length ns) e
+    go (Some m) = refl
+    go None = refl
 
 -- ORDER
 
@@ -96,14 +97,14 @@ unfolding ascending
 ascending-none = refl
 
 -- a number that is not above k is none of those above k
-find-above : (ns : List Name) (a k : ℕ) → above a ns ≡ true → k ≤ a → find ns k ≡ Unknown
+find-above : (ns : List Name) (a k : ℕ) → above a ns ≡ true → k ≤ a → find ns k ≡ None
 unfolding find above
 find-above [] a k e h = refl
 find-above (x ∷ xs) a k e h =
     let l = ltb-true a x.number (both_true (ltb a x.number) (above x.number xs) e).0 in
     rw (ne_eqb x.number k (λ q. omega arith)) (find-above xs x.number k (both_true (ltb a x.number) (above x.number xs) e).1 (omega arith))
 
-above-defined : (x : Name) (ns : List Name) (a : ℕ) → a < x.number → above a ns ≡ true → find ns x.number ≡ Unknown → above a (defined x ns) ≡ true
+above-defined : (x : Name) (ns : List Name) (a : ℕ) → a < x.number → above a ns ≡ true → find ns x.number ≡ None → above a (defined x ns) ≡ true
 unfolding find above defined
 above-defined x [] a h e f = rw (lt-ltb a x.number h)
 above-defined x (y ∷ ys) a h e f = go (above-defined x ys y.number) (ltb y.number x.number) (eqb y.number x.number) refl refl f
@@ -114,8 +115,8 @@ above-defined x (y ∷ ys) a h e f = go (above-defined x ys y.number) (ltb y.num
     r : above y.number ys ≡ true
     r = (both_true (ltb a y.number) (above y.number ys) e).1
 
-    go : (y.number < x.number → above y.number ys ≡ true → find ys x.number ≡ Unknown → above y.number (defined x ys) ≡ true)
-        → (b c : Bool) → ltb y.number x.number ≡ b → eqb y.number x.number ≡ c → pick c (Known y.value y.length) (find ys x.number) ≡ Unknown
+    go : (y.number < x.number → above y.number ys ≡ true → find ys x.number ≡ None → above y.number (defined x ys) ≡ true)
+        → (b c : Bool) → ltb y.number x.number ≡ b → eqb y.number x.number ≡ c → pick c (Some (meaning y.value y.length)) (find ys x.number) ≡ None
         → above a (pick b (y ∷ defined x ys) (x ∷ y ∷ ys)) ≡ true
     go ih b true p q u = clash (cc)
     go ih true false p q u = rw (lt-ltb a y.number l) (ih (ltb-true y.number x.number p) r u)
@@ -124,12 +125,12 @@ above-defined x (y ∷ ys) a h e f = go (above-defined x ys y.number) (ltb y.num
         rw (lt-ltb a x.number h, lt-ltb x.number y.number n) r
 
 -- defining a name that is not there keeps the order
-pub ascending-defined : (x : Name) (ns : List Name) → ascending ns ≡ true → find ns x.number ≡ Unknown → ascending (defined x ns) ≡ true
+pub ascending-defined : (x : Name) (ns : List Name) → ascending ns ≡ true → find ns x.number ≡ None → ascending (defined x ns) ≡ true
 unfolding find ascending above defined
 ascending-defined x [] e f = refl
 ascending-defined x (y ∷ ys) e f = go (ltb y.number x.number) (eqb y.number x.number) refl refl f
   where
-    go : (b c : Bool) → ltb y.number x.number ≡ b → eqb y.number x.number ≡ c → pick c (Known y.value y.length) (find ys x.number) ≡ Unknown
+    go : (b c : Bool) → ltb y.number x.number ≡ b → eqb y.number x.number ≡ c → pick c (Some (meaning y.value y.length)) (find ys x.number) ≡ None
         → ascending (pick b (y ∷ defined x ys) (x ∷ y ∷ ys)) ≡ true
     go b true p q u = clash (cc)
     go true false p q u = above-defined x ys y.number (ltb-true y.number x.number p) e u
@@ -193,37 +194,37 @@ below_up k (x ∷ xs) (suc i) z e h l =
 
 -- the name at the place has the number
 pub find_met : (k : ℕ) (ns : List Name) (z : Name) → below k ns < length ns → (get_or ns (below k ns) z).number ≡ k
-    → find ns k ≡ Known (get_or ns (below k ns) z).value (get_or ns (below k ns) z).length
+    → find ns k ≡ Some (meaning (get_or ns (below k ns) z).value (get_or ns (below k ns) z).length)
 unfolding find below
 find_met k [] z l e = absurd (omega arith)
 find_met k (x ∷ xs) z l e = go (find_met k xs z) (ltb x.number k) refl l e
   where
-    go : (below k xs < length xs → (get_or xs (below k xs) z).number ≡ k → find xs k ≡ Known (get_or xs (below k xs) z).value (get_or xs (below k xs) z).length)
+    go : (below k xs < length xs → (get_or xs (below k xs) z).number ≡ k → find xs k ≡ Some (meaning (get_or xs (below k xs) z).value (get_or xs (below k xs) z).length))
         → (b : Bool) → ltb x.number k ≡ b → pick b (suc (below k xs)) 0 < suc (length xs) → (get_or (x ∷ xs) (pick b (suc (below k xs)) 0) z).number ≡ k
-        → pick (eqb x.number k) (Known x.value x.length) (find xs k) ≡ Known (get_or (x ∷ xs) (pick b (suc (below k xs)) 0) z).value (get_or (x ∷ xs) (pick b (suc (below k xs)) 0) z).length
+        → pick (eqb x.number k) (Some (meaning x.value x.length)) (find xs k) ≡ Some (meaning (get_or (x ∷ xs) (pick b (suc (below k xs)) 0) z).value (get_or (x ∷ xs) (pick b (suc (below k xs)) 0) z).length)
     go ih true p l e = rw (ne_eqb x.number k (λ q. omega (arith, ltb-true x.number k p))) (ih (omega arith) e)
     go ih false p l e = rw (eq-eqb x.number k e)
 
 -- the name at the place has it not, or there is none: where the names ascend, the number is nowhere
 missed : (k : ℕ) (x : Name) (xs : List Name) (z : Name) → above x.number xs ≡ true
-    → (below k (x ∷ xs) < suc (length xs) → (get_or (x ∷ xs) (below k (x ∷ xs)) z).number ≡ k → ⊥) → find (x ∷ xs) k ≡ Unknown
+    → (below k (x ∷ xs) < suc (length xs) → (get_or (x ∷ xs) (below k (x ∷ xs)) z).number ≡ k → ⊥) → find (x ∷ xs) k ≡ None
 unfolding find below above
 missed k x [] z e n = go (ltb x.number k) refl n
   where
-    go : (b : Bool) → ltb x.number k ≡ b → (pick b 1 0 < 1 → (get_or (x ∷ []) (pick b 1 0) z).number ≡ k → ⊥) → pick (eqb x.number k) (Known x.value x.length) Unknown ≡ Unknown
+    go : (b : Bool) → ltb x.number k ≡ b → (pick b 1 0 < 1 → (get_or (x ∷ []) (pick b 1 0) z).number ≡ k → ⊥) → pick (eqb x.number k) (Some (meaning x.value x.length)) None ≡ None
     go true p n = rw (ne_eqb x.number k (λ q. omega (arith, ltb-true x.number k p)))
     go false p n = rw (ne_eqb x.number k (λ q. n (omega arith) q))
 missed k x (y ∷ ys) z e n = go (missed k y ys z (both_true (ltb x.number y.number) (above y.number ys) e).1) (ltb x.number k) refl n
   where
-    go : ((below k (y ∷ ys) < suc (length ys) → (get_or (y ∷ ys) (below k (y ∷ ys)) z).number ≡ k → ⊥) → find (y ∷ ys) k ≡ Unknown)
+    go : ((below k (y ∷ ys) < suc (length ys) → (get_or (y ∷ ys) (below k (y ∷ ys)) z).number ≡ k → ⊥) → find (y ∷ ys) k ≡ None)
         → (b : Bool) → ltb x.number k ≡ b
         → (pick b (suc (below k (y ∷ ys))) 0 < suc (suc (length ys)) → (get_or (x ∷ y ∷ ys) (pick b (suc (below k (y ∷ ys))) 0) z).number ≡ k → ⊥)
-        → pick (eqb x.number k) (Known x.value x.length) (find (y ∷ ys) k) ≡ Unknown
+        → pick (eqb x.number k) (Some (meaning x.value x.length)) (find (y ∷ ys) k) ≡ None
     go ih true p n = rw (ne_eqb x.number k (λ q. omega (arith, ltb-true x.number k p))) (ih (λ l q. n (omega arith) q))
     go ih false p n =
         rw (ne_eqb x.number k (λ q. n (omega arith) q)) (find-above (y ∷ ys) x.number k e (ltb-false x.number k p))
 
-pub find-missed : (k : ℕ) (ns : List Name) (z : Name) → ascending ns ≡ true → (below k ns < length ns → (get_or ns (below k ns) z).number ≡ k → ⊥) → find ns k ≡ Unknown
+pub find-missed : (k : ℕ) (ns : List Name) (z : Name) → ascending ns ≡ true → (below k ns < length ns → (get_or ns (below k ns) z).number ≡ k → ⊥) → find ns k ≡ None
 unfolding find ascending
 find-missed k [] z e n = refl
 find-missed k (x ∷ xs) z e n = missed k x xs z e n

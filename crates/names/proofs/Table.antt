@@ -1,20 +1,26 @@
 -- Laws of the table: its records as a list, the place of a number, a record more, zeroing.
+use Rattle.std.specs.Prelude.{Some, None}
 use Prim.Native.Nat.{ℕ, zero, suc, ◌+◌, ◌-◌, ◌*◌, ◌/◌, ◌%◌, ◌≤◌, ◌<◌, ◌^◌}
 use mathlib.Core.List.{List, [], ◌∷◌, ◌++◌, append_assoc}
-use mathlib.Core.Bool.{true}
+use mathlib.Core.Bool.{true, false}
 use mathlib.Core.Path.{◌≡◌, refl, sym, ap, ◌∙◌}
-use native.Mathlib.Nat.{add-zero, not-suc-le-zero}
+use native.Mathlib.Nat.{add-zero, not-suc-le-zero, lt_of_not-le}
+use native.Mathlib.Decide.{dec_le}
 use native.Mathlib.Omega.{arith}
-use lib.ListN.{length, get_or, take, drop, set, length-append, get_or-append, take-append-drop}
-use lib.Seq.{sets, sets-eq, take-append-le, take-take, drop_at, take-suc, drop-cons, drop-drop, set_at, append_snoc, get_or-take, get_or-append-add, length-take-le}
-use borrow.Author.Fill.{fill_more}
+use lib.ListN.{length, get_or, take, drop, length-append, get_or-append}
+use lib.Seq.{sets, sets-eq, take-append-le, take-take, drop_at, drop-drop, get_or-take, get_or-append-add, length-take-le}
+use lib.Dec.{ltb}
+use borrow.Author.Tests.{lt-ltb, ltb-true, ltb-false}
+use Rattle.std.specs.Simd.{first_chunks}
+use Rattle.std.specs.List.{AllWithin}
+use Rattle.std.specs.List.Sorted.{IsPartitionedBy, IsPartitionPoint}
 use Rattle.values.specs.Words.{word, part}
 use Rattle.values.specs.declared.Value.{Value}
 use Rattle.values.specs.declared.Value.TheVariants.{Absolute, Relocatable}
 use Rattle.values.specs.Values.{amount_of}
 use Rattle.values.proofs.Laws.{part_length, get_or_part}
 use Rattle.names.specs.declared.Name.{Name}
-use Rattle.names.specs.declared.Meaning.TheVariants.{Known, Unknown}
+use Rattle.names.specs.Names.{meaning}
 use Rattle.names.specs.Names.{find, defined, ascending}
 use Rattle.names.specs.Table.{value_of, kind_of, number_at, name_at, meaning_at, names_from, names_in, zeroed}
 use Rattle.names.specs.Steps.{below, shifted, name_bytes}
@@ -87,18 +93,74 @@ module _ (n : ℕ) (t : List ℕ) (k : ℕ) where
       let z = name_at t 0 in
       below_down k (names_in n t) i z (rw (names_at n t i z h) l) (rw (names-length n t) h)
 
-  pub place_met : (i : ℕ) → i ≡ below k (names_in n t) → i < n → number_at t (16 * i) ≡ k → find (names_in n t) k ≡ meaning_at t (16 * i)
+  pub place_met : (i : ℕ) → i ≡ below k (names_in n t) → i < n → number_at t (16 * i) ≡ k → find (names_in n t) k ≡ Some (meaning_at t (16 * i))
   place_met i e h l =
       let z = name_at t 0 in
       let g : below k (names_in n t) < n = omega arith in
       let w : get_or (names_in n t) (below k (names_in n t)) z ≡ name_at t (16 * i) = names_at n t (below k (names_in n t)) z g ∙ ap (λ j. name_at t (16 * j)) (sym e) in
-      find_met k (names_in n t) z (rw (names-length n t) g) (ap (λ (x : Name). x.number) w ∙ l) ∙ ap (λ (x : Name). Known x.value x.length) w
+      find_met k (names_in n t) z (rw (names-length n t) g) (ap (λ (x : Name). x.number) w ∙ l) ∙ ap (λ (x : Name). Some (meaning x.value x.length)) w
 
-  pub place-missed : (i : ℕ) → ascending (names_in n t) ≡ true → i ≡ below k (names_in n t) → (i < n → number_at t (16 * i) ≡ k → ⊥) → find (names_in n t) k ≡ Unknown
+  pub place-missed : (i : ℕ) → ascending (names_in n t) ≡ true → i ≡ below k (names_in n t) → (i < n → number_at t (16 * i) ≡ k → ⊥) → find (names_in n t) k ≡ None
   place-missed i a e m =
       let z = name_at t 0 in
       find-missed k (names_in n t) z a
       (λ l q. let g : i < n = omega (arith, names-length n t) in m g (sym (ap (λ (x : Name). x.number) (names_at n t i z g)) ∙ ap (λ j. (get_or (names_in n t) j z).number) e ∙ q))
+
+-- THE RECORDS AS ARRAYS OF 16 BYTES
+
+arrays-count : (n : ℕ) (t : List ℕ) → length (first_chunks 16 n t) ≡ n
+arrays-count zero t = refl
+arrays-count (suc n) t = ap suc (arrays-count n (drop 16 t))
+
+arrays_at : (n : ℕ) (t : List ℕ) (i : ℕ) (z : List ℕ) → i < n → get_or (first_chunks 16 n t) i z ≡ part t (16 * i) 16
+arrays_at zero t i z h = absurd (not-suc-le-zero h)
+arrays_at (suc n) t zero z h = refl
+arrays_at (suc n) t (suc i) z h =
+    let e : 16 + 16 * i ≡ 16 * suc i = omega arith in
+    arrays_at n (drop 16 t) i z (omega arith) ∙ rw (drop-drop, e)
+
+number_of_array : (t : List ℕ) (at : ℕ) → number_at (part t at 16) 0 ≡ number_at t at
+unfolding number_at
+number_of_array t at =
+    simp
+    (get_or_part t at 16 1 (omega arith), get_or_part t at 16 2 (omega arith), get_or_part t at 16 3 (omega arith), get_or_part t at 16 4 (omega arith), get_or_part t at 16 5 (omega arith), get_or_part t at 16 6 (omega arith))
+
+-- rs are all the arrays of a table that holds n records
+module _ (n : ℕ) (t : List ℕ) (k : ℕ) (rs : List (List ℕ)) (are : rs ≡ first_chunks 16 (length t / 16) t) (fits : 16 * n ≤ length t) (rising : ascending (names_in n t) ≡ true) where
+  records-count : length (take n rs) ≡ n
+  records-count = let c = ap length are ∙ arrays-count (length t / 16) t in length-take-le n rs (omega arith)
+
+  records_at : (i : ℕ) (z : List ℕ) → i < n → number_at (get_or (take n rs) i z) 0 ≡ number_at t (16 * i)
+  records_at i z h =
+      rw (get_or-take n rs i z h, are, arrays_at (length t / 16) t i z (omega arith)) (number_of_array t (16 * i))
+
+  pub records-parted : IsPartitionedBy (λ r. ltb (number_at r 0) k) (take n rs)
+  records-parted i j z l h e =
+      let m : j < n = omega (arith, records-count) in
+      let u = place_up n t k j rising m (rw (records_at j z m) at (ltb-true _ _ e)) in
+      lt-ltb _ _ (rw (records_at i z (omega arith)) (lt_of_not-le (λ q. let d = place_down n t k i (omega arith) q in absurd (omega arith))))
+
+  pub place-found : (i : ℕ) → i ≤ length (take n rs) → IsPartitionPoint (λ r. ltb (number_at r 0) k ≡ true) (λ r. ltb (number_at r 0) k ≡ false) (take n rs) i
+      → (i ≡ below k (names_in n t)) × (i ≤ n)
+  place-found i h (low, high) =
+      let m : i ≤ n = omega (arith, records-count) in
+      let a = lower i low m in
+      let b = upper m in
+      (omega arith, m)
+    where
+      lower : (j : ℕ) → AllWithin (λ r. ltb (number_at r 0) k ≡ true) (take n rs) 0 j → j ≤ n → j ≤ below k (names_in n t)
+      lower zero f m = omega arith
+      lower (suc j) f m =
+          place_up n t k j rising m (rw (records_at j [] m) at (ltb-true _ _ (f j [] (omega arith) (omega arith))))
+
+      upper : i ≤ n → below k (names_in n t) ≤ i
+      upper m =
+          elim (dec_le n i) [
+            | yes h ↦ let l = place_le n t k in omega arith
+            | no h ↦
+                let s = lt_of_not-le h in
+                place_down n t k i s (rw (records_at i [] s) at (ltb-false _ _ (high i [] (omega arith) (omega (arith, records-count)))))
+          ]
 
 -- A RECORD MORE
 
@@ -226,39 +288,7 @@ module _ (n : ℕ) (t : List ℕ) (x : Name) (fits : 16 * n + 16 ≤ length t) (
   rest-defined i low =
       ap (drop (16 * n + 16)) (stored_is t (16 * i) (16 * n) (name_bytes x) (name-long x) (omega arith) fits) ∙ stored-rest t (16 * i) (16 * n) (name_bytes x) (name-long x) (omega arith) fits
 
--- GOING UP BY 16
-
-pub shift_none : (t : List ℕ) (to : ℕ) → t ≡ shifted to to t
-unfolding shifted
-shift_none t to = let e : to - to ≡ 0 = omega arith in rw e (sym (take-append-drop (to + 16) t))
-
-pub shift_turn : (t : List ℕ) (at to : ℕ) → 0 < at → at ≤ to → to + 16 ≤ length t
-    → set (shifted at to t) (at - 1 + 16) (get_or (shifted at to t) (at - 1) 0) ≡ shifted (at - 1) to t
-unfolding shifted
-shift_turn t at to h l f =
-    let r = part t at (to - at) ++ drop (to + 16) t in
-    let e : at + 16 ≡ suc (at - 1 + 16) = omega arith in
-    let p = length-take-le (at - 1 + 16) t (omega arith) in
-    let w = length-take-le (at + 16) t (omega arith) in
-    let s = take-suc t (at - 1 + 16) 0 (omega arith) in
-    let v : get_or (take (at + 16) t ++ r) (at - 1) 0 ≡ get_or t (at - 1) 0 = get_or-append (take (at + 16) t) r 0 (at - 1) (omega arith) ∙ get_or-take (at + 16) t (at - 1) 0 (omega arith) in
-    let o : take (at + 16) t ++ r ≡ take (at - 1 + 16) t ++ get_or t (at - 1 + 16) 0 ∷ r =
-    rw (e, s) (append_snoc (take (at - 1 + 16) t) (get_or t (at - 1 + 16) 0) r) in
-    let m : to - (at - 1) ≡ suc (to - at) = omega arith in
-    let a : suc (at - 1) ≡ at = omega arith in
-    let d = drop-cons t (at - 1) 0 (omega arith) in
-    let q : get_or t (at - 1) 0 ∷ r ≡ part t (at - 1) (to - (at - 1)) ++ drop (to + 16) t = rw (m, d, a) in
-    rw (v, o) (set_at (take (at - 1 + 16) t) (get_or t (at - 1 + 16) 0) r (get_or t (at - 1) 0) (at - 1 + 16) p ∙ ap (λ l. take (at - 1 + 16) t ++ l) q)
-
 -- ZEROING
-
-pub zeroed-none : (t : List ℕ) → t ≡ zeroed 0 t
-unfolding zeroed
-zeroed-none t = refl
-
-pub zeroed-more : (n : ℕ) (t : List ℕ) → n < length t → set (zeroed n t) n 0 ≡ zeroed (n + 1) t
-unfolding zeroed
-zeroed-more n t h = fill_more n 0 t h
 
 -- what is zeroed depends only on what lies behind
 pub zeroed_rest : (n : ℕ) (a b : List ℕ) → drop n a ≡ drop n b → zeroed n a ≡ zeroed n b

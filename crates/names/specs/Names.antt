@@ -1,14 +1,17 @@
 -- R3.3, R3.4, R3.6: what each name stands for, a name more, and refusals 16 and 17. A name is a number, its six EBCDIC bytes in base 256.
-use Rattle.std.specs.Prelude.{ℕ, List, [], ◌∷◌, Bool, true, length, ltb, eqb}
+use Rattle.std.specs.Prelude.{ℕ, List, [], ◌∷◌, Bool, true, length, ltb, eqb, Option, Some, None}
 use Rattle.values.specs.Tests.{pick, both}
+use Rattle.values.specs.declared.Value.{Value}
 use Rattle.names.specs.declared.Name.{Name}
 use Rattle.names.specs.declared.Meaning.{Meaning}
-use Rattle.names.specs.declared.Meaning.TheVariants.{Known, Unknown}
+
+abbrev pub meaning : Value → ℕ → Meaning
+meaning v l = record { value = v; length = l }
 
 -- what the names say of a number: the value and the length of the name, or that it is not defined
-unfoldable pub find : List Name → ℕ → Meaning
-find [] k = Unknown
-find (x ∷ xs) k = pick (eqb x.number k) (Known x.value x.length) (find xs k)
+unfoldable pub find : List Name → ℕ → Option Meaning
+find [] k = None
+find (x ∷ xs) k = pick (eqb x.number k) (Some (meaning x.value x.length)) (find xs k)
 
 -- a name more, before the first whose number is not lower
 unfoldable pub defined : Name → List Name → List Name
@@ -26,9 +29,9 @@ ascending [] = true
 ascending (x ∷ xs) = above x.number xs
 
 -- R3.3, R3.4: 16, defined before; 17, over the limit of names
-abbrev pub refusal_of : ℕ → ℕ → Meaning → ℕ
-refusal_of limit count (Known v l) = 16
-refusal_of limit count Unknown = pick (ltb count limit) 0 17
+abbrev pub refusal_of : ℕ → ℕ → Option Meaning → ℕ
+refusal_of limit count (Some m) = 16
+refusal_of limit count None = pick (ltb count limit) 0 17
 
 unfoldable pub name_refusal : ℕ → List Name → ℕ → ℕ
 name_refusal limit names k = refusal_of limit (length names) (find names k)

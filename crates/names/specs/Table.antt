@@ -6,7 +6,7 @@ use Rattle.values.specs.declared.Value.{Value}
 use Rattle.values.specs.declared.Value.TheVariants.{Absolute, Relocatable}
 use Rattle.names.specs.declared.Name.{Name}
 use Rattle.names.specs.declared.Meaning.{Meaning}
-use Rattle.names.specs.declared.Meaning.TheVariants.{Known}
+use Rattle.names.specs.Names.{meaning}
 
 -- kind 0 is absolute, 1 relocatable
 abbrev pub value_of : ℕ → ℕ → Value
@@ -26,7 +26,7 @@ abbrev pub name_at : List ℕ → ℕ → Name
 name_at t at = record { number = number_at t at; value = value_of (get_or t (at + 7) 0) (word t (at + 8)); length = word t (at + 10) }
 
 abbrev pub meaning_at : List ℕ → ℕ → Meaning
-meaning_at t at = Known (name_at t at).value (name_at t at).length
+meaning_at t at = meaning (name_at t at).value (name_at t at).length
 
 -- n records from a place on
 unfoldable pub names_from : ℕ → List ℕ → ℕ → List Name

@@ -1,13 +1,14 @@
 // Refusals 18, 19 and 20 over all expressions of a card: the kind that each place wants.
 ghost use Rattle.std.specs.Prelude.{◌≡◌};
+ghost use Rattle.values.specs.Refusals.{number_in};
 ghost use Rattle.operands.specs.Kinds.{item_no, address_no, constant_wanted, expressions_no};
 
-use crate::{EvaluatedAddress, EvaluatedItem, Operands};
-use expressions::refusal_for;
+use crate::{EvaluatedAddress, Operands};
+use expressions::{Fault, check_value};
 use operations::Operation;
 use operations::traits::first_wanted;
-use values::Wanted;
-use values::numbers::lower_of;
+use values::refusals::{Refusal, lower_of};
+use values::{Value, Wanted};
 
 fn constant_wanted(length: u32) -> Wanted
     ensures { result ≡ constant_wanted length }
@@ -19,44 +20,38 @@ fn constant_wanted(length: u32) -> Wanted
     }
 }
 
-fn item_no(i: EvaluatedItem) -> u8
-    ensures { result ≡ item_no i }
+fn check_item(item: Option<Result<Value, Fault>>) -> Result<(), Refusal>
+    ensures { number_in result ≡ item_no item }
 {
-    match i {
-        EvaluatedItem::Absent => 0,
-        EvaluatedItem::Of(e) => refusal_for(Wanted::OnlyAbsolute, e),
-    }
+    item.map_or(Ok(()), |e| check_value(Wanted::OnlyAbsolute, e))
 }
 
-fn address_no(a: EvaluatedAddress) -> u8
-    ensures { result ≡ address_no a }
+fn check_address(a: EvaluatedAddress) -> Result<(), Refusal>
+    ensures { number_in result ≡ address_no a }
 {
-    let address = a.address;
-    let length = a.length;
-    let register = a.register;
     lower_of(
-        refusal_for(Wanted::Any, address),
-        lower_of(item_no(length), item_no(register)),
+        check_value(Wanted::Any, a.address),
+        lower_of(check_item(a.length), check_item(a.register)),
     )
 }
 
 #[tactic(auto, unfolding(crate::specs::Kinds::expressions_no))]
-pub fn expressions_no(op: Operation, x: Operands) -> u8
-    ensures { result ≡ expressions_no op x }
+pub fn check_expressions(op: Operation, x: Operands) -> Result<(), Refusal>
+    ensures { number_in result ≡ expressions_no op x }
 {
     match x {
-        Operands::TwoAddresses(a, b) => lower_of(address_no(a), address_no(b)),
+        Operands::TwoAddresses(a, b) => lower_of(check_address(a), check_address(b)),
         Operands::AddressAndCode(a, q) => lower_of(
-            address_no(a),
-            refusal_for(Wanted::OnlyAbsolute, q),
+            check_address(a),
+            check_value(Wanted::OnlyAbsolute, q),
         ),
-        Operands::LoneAddress(a) => address_no(a),
+        Operands::LoneAddress(a) => check_address(a),
         Operands::Pair(e, q) => lower_of(
-            refusal_for(first_wanted(op), e),
-            refusal_for(Wanted::OnlyAbsolute, q),
+            check_value(first_wanted(op), e),
+            check_value(Wanted::OnlyAbsolute, q),
         ),
-        Operands::Lone(e) => refusal_for(first_wanted(op), e),
-        Operands::AddressConstants(_, length, e) => refusal_for(constant_wanted(length), e),
-        Operands::None => 0,
+        Operands::Lone(e) => check_value(first_wanted(op), e),
+        Operands::AddressConstants(_, length, e) => check_value(constant_wanted(length), e),
+        Operands::NoExpression => Ok(()),
     }
 }

@@ -1,5 +1,5 @@
 -- R4.3 to R4.5, R3.2: what an operation is, all in one row, and what the row says by itself: refusals 12 and 14.
-use Rattle.std.specs.Prelude.{ℕ, Bool, true, false, eqb}
+use Rattle.std.specs.Prelude.{Option, Some, None, ℕ, true, false}
 use Rattle.values.specs.Tests.{pick}
 use Rattle.values.specs.declared.Wanted.{Wanted}
 use Rattle.values.specs.declared.Wanted.TheVariants.{Any, OnlyAbsolute, OnlyRelocatable}
@@ -123,11 +123,13 @@ fixed_size o = (traits_of o).fixed
 abbrev pub operation_no : Operation → ℕ
 operation_no o = pick (traits_of o).known 0 12
 
--- R3.2: 14, where a name is missing or may not stand; 0 is no name
-abbrev pub named_no : Naming → ℕ → ℕ
-named_no Needed name = pick (eqb name 0) 14 0
+-- R3.2: 14, where a name is missing or may not stand
+abbrev pub named_no : Naming → Option ℕ → ℕ
+named_no Needed (Some name) = 0
+named_no Needed None = 14
 named_no Taken name = 0
-named_no Forbidden name = pick (eqb name 0) 0 14
+named_no Forbidden (Some name) = 14
+named_no Forbidden None = 0
 
-abbrev pub name_no : Operation → ℕ → ℕ
+abbrev pub name_no : Operation → Option ℕ → ℕ
 name_no o name = named_no (traits_of o).naming name

@@ -5,7 +5,7 @@ pub mod codes;
 pub mod traits;
 
 // What a mnemonic stands for: one of the assembler's own operations, or an instruction of a kind, with the low half of its operation byte, or with the item or Q code that an extended mnemonic brings.
-#[derive(Clone, Copy)]
+#[derive(Clone, Copy, Debug, PartialEq, Eq)]
 pub enum Operation {
     Unknown,
     Start,

@@ -1,12 +1,14 @@
 // What an operation is, all in one row: its name, its part in the counter, how its operand is written and used, its Q, its bytes.
 ghost use Rattle.std.specs.Prelude.{◌≡◌, ◌≤◌};
-ghost use Rattle.operations.specs.Traits.{unknown, own, instruction, jump, traits_of, role_of, use_of, rule_of, first_wanted, fixed_size, operation_no, named_no, name_no};
+ghost use Rattle.values.specs.Refusals.{number_in};
+ghost use Rattle.operations.specs.Traits.{unknown, own, instruction, jump, traits_of, role_of, use_of, rule_of, first_wanted, fixed_size, operation_no, name_no};
 
 use crate::Operation;
 use values::Wanted;
+use values::refusals::Refusal;
 
 // Whether a card has a name.
-#[derive(Clone, Copy)]
+#[derive(Clone, Copy, Debug, PartialEq, Eq)]
 pub enum Naming {
     Needed,
     Taken,
@@ -14,7 +16,7 @@ pub enum Naming {
 }
 
 // What a card does to the counter and the names: an ordinary one advances the counter by its bytes.
-#[derive(Clone, Copy)]
+#[derive(Clone, Copy, Debug, PartialEq, Eq)]
 pub enum Role {
     Starts,
     Equates,
@@ -24,7 +26,7 @@ pub enum Role {
 }
 
 // On how many of two addresses a length, or MVX's item, is written.
-#[derive(Clone, Copy)]
+#[derive(Clone, Copy, Debug, PartialEq, Eq)]
 pub enum Lengths {
     OnEach,
     OnOne,
@@ -33,7 +35,7 @@ pub enum Lengths {
 }
 
 // How an operand is written.
-#[derive(Clone, Copy)]
+#[derive(Clone, Copy, Debug, PartialEq, Eq)]
 pub enum Pattern {
     // No operand is right.
     Unreadable,
@@ -55,7 +57,7 @@ pub enum Pattern {
 }
 
 // What a card does with its first or last expression: jumps to it, or takes it for a register.
-#[derive(Clone, Copy)]
+#[derive(Clone, Copy, Debug, PartialEq, Eq)]
 pub enum Use {
     Jumps,
     Registers,
@@ -63,7 +65,7 @@ pub enum Use {
 }
 
 // What an operation's Q is made of: the lengths of both operands, one length, an item, a register, a Q that is written; or what an extended mnemonic brings.
-#[derive(Clone, Copy)]
+#[derive(Clone, Copy, Debug, PartialEq, Eq)]
 pub enum Rule {
     Lengths,
     Length,
@@ -74,7 +76,7 @@ pub enum Rule {
 }
 
 // The operation byte: by the modes of the operands and a low half, or one byte alone.
-#[derive(Clone, Copy)]
+#[derive(Clone, Copy, Debug, PartialEq, Eq)]
 pub enum Opcode {
     NoByte,
     ByTwoModes(u8),
@@ -83,7 +85,7 @@ pub enum Opcode {
     Fixed(u8),
 }
 
-#[derive(Clone, Copy)]
+#[derive(Clone, Copy, Debug, PartialEq, Eq)]
 pub struct Traits {
     pub known: bool,
     pub naming: Naming,
@@ -120,14 +122,12 @@ fn own(naming: Naming, role: Role, pattern: Pattern, first: Wanted, uses: Use) -
 {
     Traits {
         known: true,
-        naming: naming,
-        role: role,
-        pattern: pattern,
-        first: first,
-        uses: uses,
-        rule: Rule::Given(0),
-        fixed: 0,
-        opcode: Opcode::NoByte,
+        naming,
+        role,
+        pattern,
+        first,
+        uses,
+        ..unknown()
     }
 }
 
@@ -137,14 +137,11 @@ fn instruction(pattern: Pattern, rule: Rule, opcode: Opcode) -> Traits
 {
     Traits {
         known: true,
-        naming: Naming::Taken,
-        role: Role::Advances,
-        pattern: pattern,
-        first: Wanted::Any,
-        uses: Use::Nothing,
-        rule: rule,
+        pattern,
+        rule,
         fixed: 2,
-        opcode: opcode,
+        opcode,
+        ..unknown()
     }
 }
 
@@ -152,15 +149,10 @@ fn jump(pattern: Pattern, rule: Rule) -> Traits
     ensures { result ≡ jump pattern rule }
 {
     Traits {
-        known: true,
-        naming: Naming::Taken,
-        role: Role::Advances,
-        pattern: pattern,
         first: Wanted::OnlyRelocatable,
         uses: Use::Jumps,
-        rule: rule,
         fixed: 3,
-        opcode: Opcode::Fixed(0xF2),
+        ..instruction(pattern, rule, Opcode::Fixed(0xF2))
     }
 }
 
@@ -273,61 +265,50 @@ pub fn traits_of(o: Operation) -> Traits
 pub fn role_of(o: Operation) -> Role
     ensures { result ≡ role_of o }
 {
-    let t = traits_of(o);
-    t.role
+    traits_of(o).role
 }
 
 pub fn use_of(o: Operation) -> Use
     ensures { result ≡ use_of o }
 {
-    let t = traits_of(o);
-    t.uses
+    traits_of(o).uses
 }
 
 pub fn rule_of(o: Operation) -> Rule
     ensures { result ≡ rule_of o }
 {
-    let t = traits_of(o);
-    t.rule
+    traits_of(o).rule
 }
 
 pub fn first_wanted(o: Operation) -> Wanted
     ensures { result ≡ first_wanted o }
 {
-    let t = traits_of(o);
-    t.first
+    traits_of(o).first
 }
 
 pub fn fixed_size(o: Operation) -> usize
     ensures { (result ≡ fixed_size o) × (result ≤ 3) }
 {
-    let t = traits_of(o);
-    t.fixed
+    traits_of(o).fixed
 }
 
-// Refusal 12; 0: none.
-pub fn operation_no(o: Operation) -> u8
-    ensures { result ≡ operation_no o }
+// 12 of an operation that is none.
+pub fn check_operation(o: Operation) -> Result<(), Refusal>
+    ensures { number_in result ≡ operation_no o }
 {
-    let t = traits_of(o);
-    if t.known { 0 } else { 12 }
-}
-
-fn named_no(naming: Naming, name: u64) -> u8
-    ensures { result ≡ named_no naming name }
-{
-    match naming {
-        Naming::Needed => { if name == 0 { 14 } else { 0 } }
-        Naming::Taken => 0,
-        Naming::Forbidden => { if name == 0 { 0 } else { 14 } }
+    if traits_of(o).known {
+        Ok(())
+    } else {
+        Err(Refusal::UnknownOperation)
     }
 }
 
-// Refusal 14 of a card with a name, 0 for no name; 0: none.
-pub fn name_no(o: Operation, name: u64) -> u8
-    ensures { result ≡ name_no o name }
+// 14 of a card with this name.
+pub fn check_name(o: Operation, name: Option<u64>) -> Result<(), Refusal>
+    ensures { number_in result ≡ name_no o name }
 {
-    let t = traits_of(o);
-    let naming = t.naming;
-    named_no(naming, name)
+    match (traits_of(o).naming, name) {
+        (Naming::Needed, None) | (Naming::Forbidden, Some(_)) => Err(Refusal::MisplacedName),
+        _ => Ok(()),
+    }
 }

@@ -1,148 +1,97 @@
 -- Pass one over what it looks at of an operand is pass one; what a line that is let through enters; a turn over the cards.
-use Prim.Native.Nat.{ℕ, ◌+◌, ◌-◌, ◌*◌, ◌/◌, ◌≤◌, ◌<◌, ◌^◌}
-use mathlib.Core.List.{List}
+use Prim.Native.Nat.{ℕ, ◌+◌, ◌≤◌, ◌<◌}
+use mathlib.Core.List.{List, [], ◌∷◌}
 use mathlib.Core.Path.{◌≡◌, refl, sym, ap, ◌∙◌}
 use native.Mathlib.Omega.{arith}
-use lib.ListN.{length, drop}
-use Rattle.values.specs.Words.{part}
-use Rattle.values.proofs.Refusals.{or_zero}
-use Rattle.names.specs.declared.Name.{Name}
+use lib.ListN.{length, drop, get_or}
+use Rattle.std.proofs.lemmas.List.{at_drop_more, at_drop_all}
 use Rattle.names.specs.Names.{find}
-use Rattle.cards.specs.Source.{columns_of, cards_from, cards_of}
-use Rattle.cards.proofs.Laws.{cards-more, cards-none}
-use Rattle.operations.specs.declared.Operation.{Operation}
+use Rattle.names.proofs.Names.{ascending-none}
+use Rattle.names.proofs.Table.{names-none}
 use Rattle.forms.specs.Size.{size_of}
-use Rattle.operands.specs.declared.Operands.{Operands}
-use Rattle.statements.specs.Statements.{lone_value}
 use Rattle.lines.specs.declared.Line.{Line}
-use Rattle.lines.specs.declared.Reading.{Reading}
-use Rattle.lines.specs.declared.Reading.TheVariants.{Comment, BadName, Statement}
+use Rattle.lines.specs.declared.Reading.TheVariants.{Statement}
 use Rattle.lines.specs.Lines.{reading_of}
 use Rattle.lines.proofs.Laws.{line-within}
-use Rattle.passes.specs.declared.Phase.{Phase}
 use Rattle.operations.specs.declared.traits.Role.{Role}
 use Rattle.operations.specs.declared.traits.Role.TheVariants.{Starts, Equates, SetsCounter, Ends, Advances}
 use Rattle.operations.specs.Traits.{role_of}
-use Rattle.passes.specs.Cards.{operands_at, counter_by, counter_after, name_value_by, name_value}
-use Rattle.passes.specs.One.{State, fresh, early_by, early_no, over_no, value_no, line_no, reading_no, names_after, reading_step, one_no, phase_after, step_one, ended_as, pass_one}
-use Rattle.passes.specs.One.Passed.{stopped}
+use Rattle.passes.specs.Cards.{value_at, counter_by, counter_after, name_value_by, name_value}
+use Rattle.passes.specs.One.{State, fresh, if_named, over_no, names_after, line_step, one_no, step_one, ended_as, pass_one}
+use Rattle.passes.specs.declared.Phase.{Phase}
+use Rattle.passes.specs.declared.Phase.TheVariants.{Before, Within, Ended}
+use Rattle.passes.specs.One.Passed.{through, stopped}
 use Rattle.passes.proofs.Turns.{pass-more, pass-stop, pass-end}
-use Rattle.passes.proofs.Fine.{room_fits, one-zero}
+use Rattle.passes.proofs.Fine.{fine, one-zero}
 use Rattle.passes.proofs.Counter.{step-low}
 use Rattle.passes.proofs.Names.{step-ascending}
 use Rattle.passes.proofs.Named.{sizes-fit, length-short}
-use Rattle.defining.specs.Entering.{Enters, entered_by}
-use Rattle.pass_one.specs.declared.Early.{Early}
+use Rattle.defining.specs.Entering.{over_by, Enters}
 use Rattle.pass_one.specs.declared.Pass.{Pass}
-use Rattle.pass_one.specs.Code.{early_from, early_in, value_by, line_by, reading_by, line_step_by, step_by, name_fits, stands_for, Fit}
+use Rattle.pass_one.specs.Code.{looked_at_by, early_value, line_step_by, stands_for, Fit}
+use Rattle.values.specs.declared.Value.{Value}
+use Rattle.std.specs.Prelude.{Option, Result, Ok, Err, is_ok}
+use Rattle.values.specs.declared.refusals.Refusal.{Refusal}
+use Rattle.values.specs.Refusals.{number_in}
+use Rattle.values.proofs.Laws.{clash}
+use mathlib.Core.Bool.{true}
+use Rattle.names.specs.declared.Meaning.{Meaning}
 
 -- THE OPERAND THAT PASS ONE LOOKS AT
 
-module _ (op : Operation) (x : Operands) where
-  early-number : (r : Role) → (early_from r op x).number ≡ early_by r op x
-  early-number Starts = refl
-  early-number Equates = refl
-  early-number SetsCounter = refl
-  early-number Ends = refl
-  early-number Advances = refl
+module _ (v : Option Value) (counter : ℕ) (l : Line) where
+  early-name : (r : Role) → name_value_by r (looked_at_by r v) counter l ≡ name_value_by r v counter l
+  early-name Starts = refl
+  early-name Equates = refl
+  early-name SetsCounter = refl
+  early-name Ends = refl
+  early-name Advances = refl
 
-  module _ (counter : ℕ) (l : Line) where
-    early-name : (r : Role) → name_value_by r (early_from r op x).value counter l ≡ name_value_by r (lone_value x) counter l
-    early-name Starts = refl
-    early-name Equates = refl
-    early-name SetsCounter = refl
-    early-name Ends = refl
-    early-name Advances = refl
+  early-counter : (r : Role) → counter_by r (looked_at_by r v) counter l ≡ counter_by r v counter l
+  early-counter Starts = refl
+  early-counter Equates = refl
+  early-counter SetsCounter = refl
+  early-counter Ends = refl
+  early-counter Advances = refl
 
-    early-counter : (r : Role) → counter_by r (early_from r op x).value counter l ≡ counter_by r (lone_value x) counter l
-    early-counter Starts = refl
-    early-counter Equates = refl
-    early-counter SetsCounter = refl
-    early-counter Ends = refl
-    early-counter Advances = refl
+module _ (look : ℕ → Option Meaning) (counter : ℕ) (s : List ℕ) (l : Line) (v : Option Value) (of : v ≡ early_value look counter s l) where
+  early-named : name_value_by (role_of l.operation) v counter l ≡ name_value look counter s l
+  unfolding name_value
+  early-named = rw of (early-name (value_at look counter s l) counter l (role_of l.operation))
 
-module _ (st : State) (s : List ℕ) where
-  no_is : (x : Reading) → reading_by st x (early_in (find st.names) st.counter s x) ≡ reading_no st s x
-  unfolding line_by value_by line_no value_no early_no over_no name_value
-  no_is Comment = refl
-  no_is BadName = refl
-  no_is (Statement l) =
-      let x = operands_at (find st.names) st.counter s l in
-      rw (early-number l.operation x (role_of l.operation), early-name l.operation x st.counter l (role_of l.operation))
+  -- 20 of the name, over the value that was looked at
+  pub over_is : (r : Role) → r ≡ role_of l.operation → if_named l.name (λ name. over_by r v counter l) ≡ if_named l.name (λ name. over_no look counter s l)
+  unfolding over_no
+  over_is r is = rw (is, early-named)
 
-  step_is : (x : Reading) → step_by st x (early_in (find st.names) st.counter s x) ≡ reading_step st s x
-  unfolding names_after name_value counter_after
-  step_is Comment = refl
-  step_is BadName = refl
-  step_is (Statement l) =
-      let x = operands_at (find st.names) st.counter s l in
-      rw (early-counter l.operation x st.counter l (role_of l.operation), early-name l.operation x st.counter l (role_of l.operation))
-
-  module _ (x : Reading) (e : Early) (is : reading_of s ≡ x) (of : e ≡ early_in (find st.names) st.counter s x) where
-    pub read_no : reading_by st x e ≡ reading_no st s (reading_of s)
-    read_no = ap (reading_by st x) of ∙ no_is x ∙ ap (reading_no st s) (sym is)
-
-    pub read-zero : one_no st s ≡ 0 → reading_by st x e ≡ 0
-    read-zero h = read_no ∙ (one-zero st s h).2
-
-    pub read_step : step_by st x e ≡ step_one st s
-    unfolding step_one
-    read_step = ap (step_by st x) of ∙ step_is x ∙ ap (reading_step st s) (sym is)
-
-pub name-fits : (s : List ℕ) (x : Reading) → reading_of s ≡ x → name_fits x
-name-fits s Comment e = tt
-name-fits s BadName e = tt
-name-fits s (Statement l) e = (line-within s l e).name
+module _ (st : State) (s : List ℕ) (l : Line) (v : Option Value) (of : v ≡ early_value (find st.names) st.counter s l) where
+  step-is : line_step_by st l v ≡ line_step st s l
+  unfolding names_after counter_after
+  step-is = rw (early-named (find st.names) st.counter s l v of, of, early-counter (value_at (find st.names) st.counter s l) st.counter l (role_of l.operation))
 
 -- A LINE THAT IS LET THROUGH
 
-pub line_enters : (st : State) (l : Line) (e : Early) → line_by st l e ≡ 0 → l.name < 2 ^ 48
-    → Enters st.names (role_of l.operation) e.value st.counter l × (st.counter + size_of l.operation l.shape ≤ 65536)
-unfolding line_by value_by
-line_enters st l e h name =
-    let a = (or_zero _ _ (or_zero _ _ (or_zero _ _ (or_zero _ _ h).1).1).1).1 in
-    let new = or_zero _ _ a in
-    let low = or_zero _ _ (or_zero _ _ new.1).1 in
-    let sizes = or_zero _ _ low.1 in
-    let over = low.0 in (
+pub line_enters : (st : State) (s : List ℕ) (l : Line) (v : Option Value) → reading_of s ≡ Statement l → v ≡ early_value (find st.names) st.counter s l → one_no st s ≡ 0
+    → Enters st.names (role_of l.operation) v st.counter l × (st.counter + size_of l.operation l.shape ≤ 65536)
+line_enters st s l v is of h =
+    let no = (one-zero st s h).2 in
+    let f = fine st s l (rw is at no) in
+    let over = over_is (find st.names) st.counter s l v of (role_of l.operation) refl ∙ f.low in (
       record {
-        new = new.0;
-        low = rw (sizes-fit l.shape sizes.0) at over;
-        short = omega (arith, length-short (role_of l.operation) l.operation l.shape sizes.0);
-        number = name;
+        new = f.new;
+        low = rw (sizes-fit l.shape f.sizes) at over;
+        short = omega (arith, length-short (role_of l.operation) l.operation l.shape f.sizes);
+        number = (line-within s l is).name;
       },
-      room_fits st.counter (size_of l.operation l.shape) sizes.1,
+      f.room,
     )
 
 -- behind it, part by part
-pub line-steps : (st : State) (l : Line) (e : Early) (r : Role) (counter : ℕ) (names : List Name) (phase : Phase) → r ≡ role_of l.operation
-    → counter ≡ counter_by r e.value st.counter l → names ≡ entered_by st.names r e.value st.counter l → phase ≡ phase_after r st.phase
-    → record { counter = counter; names = names; phase = phase } ≡ line_step_by st l e
-line-steps st l e r counter names phase is c n p = rw (c, n, p, is)
+pub line_steps : (st : State) (s : List ℕ) (l : Line) (v : Option Value) → reading_of s ≡ Statement l → v ≡ early_value (find st.names) st.counter s l → line_step_by st l v ≡ step_one st s
+unfolding step_one
+line_steps st s l v is of = rw is (step-is st s l v of)
 
--- A TURN OVER THE CARDS
-
-module _ (k width left at : ℕ) (st : State) (source s : List ℕ) (some : 0 < left) (is : s ≡ part source at (columns_of width)) where
-  pub turn_more : one_no st s ≡ 0 → pass_one k st (cards_from left width source at) ≡ pass_one (k + 1) (step_one st s) (cards_from (left - 1) width source (at + width))
-  turn_more e = rw (cards-more left width source at some, ← is) (pass-more k st s (cards_from (left - 1) width source (at + width)) e)
-
-  pub turn_stop : (one_no st s ≡ 0 → ⊥) → pass_one k st (cards_from left width source at) ≡ stopped (one_no st s) k
-  turn_stop e = rw (cards-more left width source at some, ← is) (pass-stop k st s (cards_from (left - 1) width source (at + width)) e)
-
-pub turn_end : (k width left at : ℕ) (st : State) (source : List ℕ) (phase : Phase) → left ≤ 0 → st.phase ≡ phase
-    → pass_one k st (cards_from left width source at) ≡ ended_as phase st
-turn_end k width left at st source phase none e = rw (cards-none left width source at none) (pass-end k st ∙ ap (λ f. ended_as f st) e)
-
--- between two cards: the pass over all cards is the pass over those left, from the state now
-pub record Ran (width : ℕ) (source table₀ table : List ℕ) (p : Pass) (left at k : ℕ) : Type 0 where
-  pub whole : at + width * left ≡ length source
-  pub cards : k + left ≡ 1 + length source / width
-  pub same : length table ≡ length table₀
-  pub fit : Fit p table
-  pub rest : drop 8192 table ≡ drop 8192 table₀
-  pub pass : pass_one 1 fresh (cards_of width source) ≡ pass_one k (stands_for p table) (cards_from left width source at)
-
--- behind a card that is let through
+-- the names in the table stay fit
 pub next_fits : (p q : Pass) (t u s : List ℕ) → one_no (stands_for p t) s ≡ 0 → Fit p t → stands_for q u ≡ step_one (stands_for p t) s → q.count ≤ 512 → Fit q u
 next_fits p q t u s h f is few =
     let names = ap (λ (st : State). st.names) is in
@@ -152,3 +101,62 @@ next_fits p q t u s h f is few =
       low = rw counter (step-low (stands_for p t) s h f.low);
       ordered = rw names (step-ascending (stands_for p t) s h f.ordered);
     }
+
+-- A TURN OVER THE CARDS
+
+-- what is not refused has no number
+pub passed_zero : {X : Type 0} (r : Result X Refusal) → true ≡ is_ok r → number_in r ≡ 0
+passed_zero (Ok x) e = refl
+passed_zero (Err r) e = clash (cc)
+
+-- between two cards, `i` of them behind: the pass over all cards is the pass over those left, from the state now
+pub record Ran (cards : List (List ℕ)) (table₀ table : List ℕ) (p : Pass) (i : ℕ) : Type 0 where
+  pub same : length table ≡ length table₀
+  pub fit : Fit p table
+  pub rest : drop 8192 table ≡ drop 8192 table₀
+  pub pass : pass_one 1 fresh cards ≡ pass_one (i + 1) (stands_for p table) (drop i cards)
+
+-- before the first
+pub ran_none : (cards : List (List ℕ)) (table : List ℕ) → Ran cards table table (record { counter = 0; count = 0; phase = Before }) 0
+ran_none cards table = record {
+  same = refl;
+  fit = record { few = omega arith; low = omega arith; ordered = rw (names-none table) ascending-none };
+  rest = refl;
+  pass = rw (names-none table);
+}
+
+module _ {cards : List (List ℕ)} {table₀ table : List ℕ} {p : Pass} {i : ℕ} (r : Ran cards table₀ table p i) where
+  module _ {s : List ℕ} (is : s ≡ get_or cards i []) (some : i < length cards) where
+    here : pass_one 1 fresh cards ≡ pass_one (i + 1) (stands_for p table) (s ∷ drop (i + 1) cards)
+    here = r.pass ∙ rw is (at_drop_more (pass_one (i + 1) (stands_for p table)) cards i [] some)
+
+    -- behind a card that is let through
+    pub ran_more : {u : List ℕ} {q : Pass} → one_no (stands_for p table) s ≡ 0 → stands_for q u ≡ step_one (stands_for p table) s → Fit q u
+        → length u ≡ length table → drop 8192 u ≡ drop 8192 table → Ran cards table₀ u q (i + 1)
+    ran_more zero step fit same rest = record {
+      same = same ∙ r.same;
+      fit = fit;
+      rest = rest ∙ r.rest;
+      pass = here ∙ pass-more (i + 1) (stands_for p table) s (drop (i + 1) cards) zero ∙ ap (λ st. pass_one (i + 1 + 1) st (drop (i + 1) cards)) (sym step);
+    }
+
+    -- the pass stops at a card
+    pub ran_stop : 0 < one_no (stands_for p table) s → stopped (one_no (stands_for p table) s) (i + 1) ≡ pass_one 1 fresh cards
+    ran_stop refused = sym (here ∙ pass-stop (i + 1) (stands_for p table) s (drop (i + 1) cards) (λ z. omega arith))
+
+  -- or ends, where END has been or not
+  module _ (none : length cards ≤ i) where
+    ended : ended_as p.phase (stands_for p table) ≡ pass_one 1 fresh cards
+    ended = sym (r.pass ∙ at_drop_all (pass_one (i + 1) (stands_for p table)) cards i none ∙ pass-end (i + 1) (stands_for p table))
+
+    pub ran_through : p.phase ≡ Ended → through (stands_for p table) ≡ pass_one 1 fresh cards
+    ran_through is = sym (ap (λ f. ended_as f (stands_for p table)) is) ∙ ended
+
+    -- 9 of no card, where END has not been
+    pub ran_short : {number card : ℕ} → (p.phase ≡ Ended → ⊥) → number ≡ 9 → card ≡ 0 → stopped number card ≡ pass_one 1 fresh cards
+    ran_short other nine zero = rw (nine, zero) (go p.phase other ∙ ended)
+      where
+        go : (f : Phase) → (f ≡ Ended → ⊥) → stopped 9 0 ≡ ended_as f (stands_for p table)
+        go Before n = refl
+        go Within n = refl
+        go Ended n = absurd (n refl)

@@ -1,151 +1,93 @@
 // Pass one, over the cards in order: the counter, the names, and the first card that it refuses.
 #![tactic(auto)]
 
-ghost use Rattle.std.specs.Prelude.{◌≡◌, true, ◌*◌, ◌^◌, ◌≤◌, ◌<◌, length, drop};
-ghost use Rattle.names.specs.Names.{find, ascending};
-ghost use Rattle.names.specs.Table.{names_in};
-ghost use Rattle.cards.specs.Source.{source_no, cards_of};
+ghost use Rattle.std.specs.Prelude.{◌≡◌, ◌≤◌, length, drop, IfOk};
+ghost use Rattle.values.specs.Refusals.{number_in};
+ghost use Rattle.names.specs.Names.{find};
 ghost use Rattle.lines.specs.Lines.{reading_of};
-ghost use Rattle.passes.specs.One.{fresh, one_no, phase_after, pass_one};
-ghost use Rattle.pass_one.specs.Code.{no_early, early_of, early_line, early_in, value_by, line_by, reading_by, line_step_by, step_by, name_fits, stands_for, Fit, passed_as};
+ghost use Rattle.passes.specs.One.{fresh, early_no, line_no, one_no, phase_after, pass_one, step_one};
+ghost use Rattle.pass_one.specs.Code.{early_value, early_in, state_of, stands_for, Fit, passed_as};
 
-use cards::byte_no;
-use cards::source::{card_at, columns_of};
+use cards::check_bytes;
+use cards::source::Source;
 use defining::enter;
-use defining::refusals::{after_end_no, new_no, over_no, room_no, sizes_no, start_no};
+use defining::refusals::{
+    check_new, check_not_ended, check_over, check_room, check_sizes, check_start,
+};
 use forms::size_of;
-use lines::{Line, Reading, read_line, shape_no};
-use operands::Operands;
-use operands::kinds::expressions_no;
-use operations::Operation;
-use operations::traits::{Role, name_no, operation_no, role_of};
-use passes::{Phase, counter_by, operands_at};
+use lines::{Line, Reading, check_shape, read_line};
+use names::lookup::Names;
+use operands::kinds::check_expressions;
+use operations::traits::{Role, check_name, check_operation, role_of};
+use passes::{Phase, Refused, counter_by, operands_at};
 use statements::lone_value;
-use values::MaybeValue;
-use values::numbers::or_else;
+use values::Value;
+use values::refusals::Refusal;
 
 // Where pass one stands: the counter, how many names the table holds, and where START and END are.
-#[derive(Clone, Copy)]
+#[derive(Clone, Copy, Debug, PartialEq, Eq)]
 pub struct Pass {
     pub counter: u32,
     pub count: usize,
     pub phase: Phase,
 }
 
-// Through all cards, or stopped by a number of refusal at a card.
-#[derive(Clone, Copy)]
-pub enum PassedOne {
-    Through(Pass),
-    Stopped(u8, u16),
-}
-
-// What pass one looks at of an operand, EQU's or ORG's: its refusal, or 0, and its value. Of the other cards it looks at none.
-#[derive(Clone, Copy)]
-pub struct Early {
-    pub number: u8,
-    pub value: MaybeValue,
-}
-
-fn no_early() -> Early
-    ensures { result ≡ no_early }
+// The value of EQU's or ORG's operand, over the names of earlier cards, or its refusal 18 to 20. At the other cards' operands pass one does not look.
+#[tactic(auto, unfolding(passes::specs::One::early_no))]
+fn early_value(l: Line, card: &[u8], names: &Names, counter: u32) -> Result<Option<Value>, Refusal>
+    requires { (l.operand ≤ l.end) × (l.end ≤ length card.now) }
+    ensures number { number_in result ≡ early_no (find names.now) counter card.now l }
+    ensures value { IfOk result (λ v. v ≡ early_value (find names.now) counter card.now l) }
 {
-    Early {
-        number: 0,
-        value: MaybeValue::Nothing,
-    }
-}
-
-fn early_of(op: Operation, x: Operands) -> Early
-    ensures { result ≡ early_of op x }
-{
-    Early {
-        number: expressions_no(op, x),
-        value: lone_value(x),
-    }
-}
-
-fn early_line(l: Line, card: &[u8], table: &[u8], count: usize, counter: u32) -> Early
-    requires operand_le_end { (l.operand ≤ l.end) × (l.end ≤ length card.now) }
-    requires count_in_bounds { (16 * count ≤ length table.now) × (ascending (names_in count table.now) ≡ true) }
-    ensures { result ≡ early_line (find (names_in count table.now)) counter card.now l }
-{
-    let operation = l.operation;
-    match role_of(operation) {
+    match role_of(l.operation) {
         Role::Equates | Role::SetsCounter => {
-            early_of(operation, operands_at(l, card, table, count, counter))
+            let x = operands_at(l, card, names, counter);
+            check_expressions(l.operation, x)?;
+            Ok(lone_value(x))
         }
-        _ => no_early(),
+        _ => Ok(None),
     }
 }
 
-// What it looks at of a card that was read, over the names of earlier cards.
-fn early_in(reading: Reading, card: &[u8], table: &[u8], count: usize, counter: u32) -> Early
-    requires card_value { reading_of card.now ≡ reading }
-    requires count_in_bounds { (16 * count ≤ length table.now) × (ascending (names_in count table.now) ≡ true) }
-    ensures { result ≡ early_in (find (names_in count table.now)) counter card.now reading }
+// The lowest of refusals 12 to 24; or what pass one has looked at.
+#[tactic(auto, unfolding(passes::specs::One::line_no, passes::specs::One::value_no, values::specs::Tests::or_else))]
+fn check_line(p: Pass, l: Line, card: &[u8], names: &Names) -> Result<Option<Value>, Refusal>
+    requires { (l.operand ≤ l.end) × (l.end ≤ length card.now) }
+    ensures number { number_in result ≡ line_no (state_of p names.now) card.now l }
+    ensures value { IfOk result (λ v. v ≡ early_value (find names.now) p.counter card.now l) }
 {
+    let role = role_of(l.operation);
+    check_operation(l.operation)?;
+    check_start(p.phase, role)?;
+    check_name(l.operation, l.name)?;
+    check_shape(l.shape)?;
+    check_new(l.name, names)?;
+    let v = early_value(l, card, names, p.counter)?;
+    check_over(role, v, p.counter, l)?;
+    check_sizes(l.shape)?;
+    check_room(p.counter, size_of(l.operation, l.shape))?;
+    Ok(v)
+}
+
+// The refusal of a card: 9 before all else, then 10 over all its columns; 11 of a bad name.
+#[tactic(auto, unfolding(passes::specs::One::one_no, values::specs::Tests::or_else))]
+fn check_card(
+    p: Pass,
+    card: &[u8],
+    reading: Reading,
+    names: &Names,
+) -> Result<Option<Value>, Refusal>
+    requires { reading_of card.now ≡ reading }
+    ensures number { number_in result ≡ one_no (state_of p names.now) card.now }
+    ensures value { IfOk result (λ v. v ≡ early_in (find names.now) p.counter card.now reading) }
+{
+    check_not_ended(p.phase)?;
+    check_bytes(card)?;
     match reading {
-        Reading::Statement(l) => early_line(l, card, table, count, counter),
-        _ => no_early(),
+        Reading::Comment => Ok(None),
+        Reading::BadName => Err(Refusal::BadName),
+        Reading::Statement(l) => check_line(p, l, card, names),
     }
-}
-
-// The lowest of refusals 16 to 24.
-#[tactic(auto, unfolding(crate::specs::Code::value_by))]
-fn value_no(p: Pass, l: Line, e: Early, table: &[u8]) -> u8
-    requires { (8192 ≤ length table.now) × Fit p table.now }
-    ensures { result ≡ value_by (stands_for p table.now) l e }
-{
-    let operation = l.operation;
-    let shape = l.shape;
-    let v = e.value;
-    let new = new_no(l.name, table, p.count);
-    let over = over_no(role_of(operation), v, p.counter, l);
-    let sizes = sizes_no(shape);
-    let room = room_no(p.counter, size_of(operation, shape));
-    or_else(new, or_else(e.number, or_else(over, or_else(sizes, room))))
-}
-
-// 12 to 15 before them.
-#[tactic(auto, unfolding(crate::specs::Code::line_by))]
-fn line_no(p: Pass, l: Line, e: Early, table: &[u8]) -> u8
-    requires { (8192 ≤ length table.now) × Fit p table.now }
-    ensures { result ≡ line_by (stands_for p table.now) l e }
-{
-    let operation = l.operation;
-    let shape = l.shape;
-    let phase = p.phase;
-    let known = operation_no(operation);
-    let start = start_no(phase, role_of(operation));
-    let name = name_no(operation, l.name);
-    let form = shape_no(shape);
-    let value = value_no(p, l, e, table);
-    or_else(known, or_else(start, or_else(name, or_else(form, value))))
-}
-
-// 11 of a bad name.
-fn reading_no(p: Pass, reading: Reading, e: Early, table: &[u8]) -> u8
-    requires { (8192 ≤ length table.now) × Fit p table.now }
-    ensures { result ≡ reading_by (stands_for p table.now) reading e }
-{
-    match reading {
-        Reading::Comment => 0,
-        Reading::BadName => 11,
-        Reading::Statement(l) => line_no(p, l, e, table),
-    }
-}
-
-// The refusal of a card, or 0: 9 before all else, then 10 over all its columns.
-fn one_no(p: Pass, card: &[u8], reading: Reading, e: Early, table: &[u8]) -> u8
-    requires in_bounds { (8192 ≤ length table.now) × Fit p table.now }
-    requires card_value { (reading_of card.now ≡ reading) × (e ≡ early_in (find (names_in p.count table.now)) p.counter card.now reading) }
-    ensures { result ≡ one_no (stands_for p table.now) card.now }
-{
-    let phase = p.phase;
-    let ended = after_end_no(phase);
-    let byte = byte_no(card);
-    let read = reading_no(p, reading, e, table);
-    or_else(ended, or_else(byte, read))
 }
 
 fn phase_after(role: Role, p: Phase) -> Phase
@@ -158,74 +100,51 @@ fn phase_after(role: Role, p: Phase) -> Phase
     }
 }
 
-// Behind a line that is let through.
-fn line_step(p: Pass, l: Line, e: Early, table: &mut [u8]) -> Pass
+// Behind a card that is let through, v being what pass one has looked at.
+#[tactic(auto, unfolding(passes::specs::One::step_one))]
+fn step_one(p: Pass, card: &[u8], reading: Reading, v: Option<Value>, table: &mut [u8]) -> Pass
     requires in_bounds { (8192 ≤ length table.old) × Fit p table.old }
-    requires e_value { (line_by (stands_for p table.old) l e ≡ 0) × (l.name < 2 ^ 48) }
-    ensures table_after { (stands_for result table.new ≡ line_step_by (stands_for p table.old) l e) × (result.count ≤ 512) }
-    ensures table_unchanged { drop 8192 table.new ≡ drop 8192 table.old }
-{
-    let operation = l.operation;
-    let phase = p.phase;
-    let here = p.counter;
-    let v = e.value;
-    let role = role_of(operation);
-    let counter = counter_by(role, v, here, l);
-    let next = phase_after(role, phase);
-    let count = enter(role, v, here, l, table, p.count);
-    Pass {
-        counter: counter,
-        count: count,
-        phase: next,
-    }
-}
-
-// Behind a card that is let through.
-fn step_one(p: Pass, reading: Reading, e: Early, table: &mut [u8]) -> Pass
-    requires in_bounds { (8192 ≤ length table.old) × Fit p table.old }
-    requires e_value { (reading_by (stands_for p table.old) reading e ≡ 0) × name_fits reading }
-    ensures table_after { (stands_for result table.new ≡ step_by (stands_for p table.old) reading e) × (result.count ≤ 512) }
+    requires read { reading_of card.now ≡ reading }
+    requires looked { v ≡ early_in (find (stands_for p table.old).names) p.counter card.now reading }
+    requires let_through { one_no (stands_for p table.old) card.now ≡ 0 }
+    ensures table_after { (stands_for result table.new ≡ step_one (stands_for p table.old) card.now) × Fit result table.new }
     ensures table_unchanged { drop 8192 table.new ≡ drop 8192 table.old }
 {
     match reading {
-        Reading::Comment => p,
-        Reading::BadName => p,
-        Reading::Statement(l) => line_step(p, l, e, table),
+        Reading::Comment | Reading::BadName => p,
+        Reading::Statement(l) => {
+            let role = role_of(l.operation);
+            Pass {
+                counter: counter_by(role, v, p.counter, l),
+                count: enter(role, v, p.counter, l, table, p.count),
+                phase: phase_after(role, p.phase),
+            }
+        }
     }
 }
 
 // Over all cards of a source, with the table of names in the first 8,192 bytes of a lent area.
-#[tactic(auto, unfolding(passes::specs::One::pass_one, cards::specs::Source::source_no))]
-pub fn run_one(width: usize, source: &[u8], table: &mut [u8]) -> PassedOne
-    requires { (source_no width (length source.now) ≡ 0) × (8192 ≤ length table.old) }
-    ensures table_after { passed_as result table.new ≡ pass_one 1 fresh (cards_of width source.now) }
+#[tactic(auto, using(crate::proofs::Laws::ran_stop, crate::proofs::Laws::ran_through))]
+pub fn run_one(source: &Source, table: &mut [u8]) -> Result<Pass, Refused>
+    requires { 8192 ≤ length table.old }
+    ensures table_after { passed_as result table.new ≡ pass_one 1 fresh source.now }
     ensures table_unchanged { drop 8192 table.new ≡ drop 8192 table.old }
 {
-    let columns = columns_of(width as u32);
     let mut p = Pass {
         counter: 0,
         count: 0,
         phase: Phase::Before,
     };
-    let mut left = source.len() / width;
-    let mut at = 0;
-    let mut k: u16 = 1;
-    while 0 < left {
-        let card = card_at(source, at, columns);
+    for i in 0..source.len() {
+        let card = source.card(i);
         let reading = read_line(card);
-        let early = early_in(reading, card, table, p.count, p.counter);
-        let number = one_no(p, card, reading, early, table);
-        if number != 0 {
-            return PassedOne::Stopped(number, k);
-        }
-        p = step_one(p, reading, early, table);
-        left -= 1;
-        at += width;
-        k += 1;
+        let k = i as u16 + 1;
+        let checked = check_card(p, card, reading, &Names::of(table, p.count));
+        let v = checked.map_err(|r| Refused::at(k, r))?;
+        p = step_one(p, card, reading, v, table);
     }
-    let phase = p.phase;
-    match phase {
-        Phase::Ended => PassedOne::Through(p),
-        _ => PassedOne::Stopped(9, 0),
+    match p.phase {
+        Phase::Ended => Ok(p),
+        _ => Err(Refused::at(0, Refusal::MisplacedEnd)),
     }
 }

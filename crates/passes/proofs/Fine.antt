@@ -7,16 +7,15 @@ use native.Mathlib.Omega.{arith}
 use lib.Dec.{leb}
 use borrow.Author.Tests.{eq-eqb, le-leb, leb-true}
 use Rattle.values.specs.Tests.{pick}
-use Rattle.values.proofs.Refusals.{or_zero}
+use Rattle.values.proofs.Numbers.{or_zero}
 use Rattle.names.specs.Names.{find, name_refusal}
 use Rattle.cards.specs.Fields.{byte_no}
-use Rattle.operations.specs.Traits.{operation_no, name_no}
+use Rattle.operations.specs.Traits.{operation_no, name_no, role_of}
 use Rattle.forms.specs.Size.{size_of}
 use Rattle.lines.specs.declared.Line.{Line}
 use Rattle.lines.specs.declared.Reading.{Reading}
 use Rattle.lines.specs.declared.Reading.TheVariants.{Comment, BadName, Statement}
 use Rattle.lines.specs.Lines.{reading_of, shape_no}
-use Rattle.operations.specs.Traits.{role_of}
 use Rattle.passes.specs.One.{State, after_end_no, start_no, most_names, if_named, early_no, over_no, sizes_no, room_no, value_no, line_no, reading_no, one_no, step_one, pass_one}
 use Rattle.passes.specs.One.Passed.{through}
 use Rattle.passes.specs.Sound.{sound_reading, sound}
@@ -27,9 +26,9 @@ pub record Fine (st : State) (s : List ℕ) (l : Line) : Type 0 where
   pub started : start_no st.phase (role_of l.operation) ≡ 0
   pub naming : name_no l.operation l.name ≡ 0
   pub formed : shape_no l.shape ≡ 0
-  pub new : if_named l.name (name_refusal most_names st.names l.name) ≡ 0
+  pub new : if_named l.name (name_refusal most_names st.names) ≡ 0
   pub early : early_no (find st.names) st.counter s l ≡ 0
-  pub low : if_named l.name (over_no (find st.names) st.counter s l) ≡ 0
+  pub low : if_named l.name (λ name. over_no (find st.names) st.counter s l) ≡ 0
   pub sizes : sizes_no l.shape ≡ 0
   pub room : st.counter + size_of l.operation l.shape ≤ 65536
 

@@ -1,5 +1,4 @@
 -- The laws of the passes.
-pub mod Cases
 pub mod Turns
 pub mod Fine
 pub mod Names

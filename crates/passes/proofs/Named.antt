@@ -4,7 +4,7 @@ use mathlib.Core.Path.{◌≡◌, refl}
 use mathlib.Core.Bool.{Bool, true, false}
 use native.Mathlib.Omega.{arith}
 use lib.Dec.{leb}
-use borrow.Author.Tests.{leb-true, ne_eqb}
+use borrow.Author.Tests.{leb-true}
 use Rattle.values.specs.Tests.{pick}
 use Rattle.operations.specs.declared.Operation.{Operation}
 use Rattle.operations.specs.declared.traits.Role.{Role}
@@ -16,14 +16,11 @@ use Rattle.data.specs.declared.Data.{Data as DataSaid}
 use Rattle.data.specs.Sizes.{length_fits, data_no_by, data_no}
 use Rattle.data.proofs.Fine.{constant-fine, reserve-fine}
 use Rattle.forms.specs.declared.Shape.{Shape}
-use Rattle.forms.specs.declared.Shape.TheVariants.{Fails, Nothing, StartAt, Expression, Pair, Target, TwoAddresses, AddressAndCode, LoneAddress, Data}
+use Rattle.forms.specs.declared.Shape.TheVariants.{Nothing, StartAt, Expression, Pair, Target, TwoAddresses, AddressAndCode, LoneAddress, Data}
 use Rattle.forms.proofs.Laws.{address-size}
 use Rattle.passes.specs.Cards.{field_length, name_length_by}
-use Rattle.passes.specs.One.{if_named, m_fits, amount_over, sizes_no}
-
--- a rule for names holds of a card that has one
-pub if_named_lem : (name n : ℕ) → (name ≡ 0 → ⊥) → if_named name n ≡ 0 → n ≡ 0
-if_named_lem name n h e = rw (ne_eqb name 0 h) at e
+use Rattle.passes.specs.One.{m_fits, amount_over, sizes_no}
+use Rattle.std.specs.Prelude.{Result, Ok, Err}
 
 pub amount-low : (n : ℕ) → amount_over n ≡ 0 → n ≤ 65535
 amount-low n e = go (leb n 65535) refl e
@@ -40,31 +37,31 @@ data_fine d e = go d.card e
     go Constant e = let f = constant-fine d e in (f.fits, f.short)
     go Reserve e = let f = reserve-fine d e in (f.fits, f.short)
 
-pub sizes-fit : (x : Shape) → sizes_no x ≡ 0 → m_fits x ≡ true
-sizes-fit (Fails q) e = refl
-sizes-fit Nothing e = refl
-sizes-fit (StartAt v) e = refl
-sizes-fit Expression e = refl
-sizes-fit (Pair p) e = refl
-sizes-fit Target e = refl
-sizes-fit (TwoAddresses a b) e = refl
-sizes-fit (AddressAndCode a p) e = refl
-sizes-fit (LoneAddress a) e = refl
-sizes-fit (Data d) e = (data_fine d e).0
+pub sizes-fit : (x : Result Shape ℕ) → sizes_no x ≡ 0 → m_fits x ≡ true
+sizes-fit (Err q) e = refl
+sizes-fit (Ok Nothing) e = refl
+sizes-fit (Ok (StartAt v)) e = refl
+sizes-fit (Ok Expression) e = refl
+sizes-fit (Ok (Pair p)) e = refl
+sizes-fit (Ok Target) e = refl
+sizes-fit (Ok (TwoAddresses a b)) e = refl
+sizes-fit (Ok (AddressAndCode a p)) e = refl
+sizes-fit (Ok (LoneAddress a)) e = refl
+sizes-fit (Ok (Data d)) e = (data_fine d e).0
 
-field_short : (op : Operation) (x : Shape) → sizes_no x ≡ 0 → field_length op x ≤ 256
-field_short op (Fails q) e = omega arith
-field_short op Nothing e = omega arith
-field_short op (StartAt v) e = omega arith
-field_short op Expression e = omega arith
-field_short op (Pair p) e = omega (arith, fixed_small op)
-field_short op Target e = omega (arith, fixed_small op)
-field_short op (TwoAddresses a b) e = omega (arith, fixed_small op, (address-size a.register).1, (address-size b.register).1)
-field_short op (AddressAndCode a p) e = omega (arith, fixed_small op, (address-size a.register).1)
-field_short op (LoneAddress a) e = omega (arith, fixed_small op, (address-size a.register).1)
-field_short op (Data d) e = (data_fine d e).1
+field_short : (op : Operation) (x : Result Shape ℕ) → sizes_no x ≡ 0 → field_length op x ≤ 256
+field_short op (Err q) e = omega arith
+field_short op (Ok Nothing) e = omega arith
+field_short op (Ok (StartAt v)) e = omega arith
+field_short op (Ok Expression) e = omega arith
+field_short op (Ok (Pair p)) e = omega (arith, fixed_small op)
+field_short op (Ok Target) e = omega (arith, fixed_small op)
+field_short op (Ok (TwoAddresses a b)) e = omega (arith, fixed_small op, (address-size a.register).1, (address-size b.register).1)
+field_short op (Ok (AddressAndCode a p)) e = omega (arith, fixed_small op, (address-size a.register).1)
+field_short op (Ok (LoneAddress a)) e = omega (arith, fixed_small op, (address-size a.register).1)
+field_short op (Ok (Data d)) e = (data_fine d e).1
 
-pub length-short : (r : Role) (op : Operation) (x : Shape) → sizes_no x ≡ 0 → name_length_by r op x ≤ 256
+pub length-short : (r : Role) (op : Operation) (x : Result Shape ℕ) → sizes_no x ≡ 0 → name_length_by r op x ≤ 256
 length-short Starts op x e = omega arith
 length-short Equates op x e = omega arith
 length-short SetsCounter op x e = omega arith

@@ -1,17 +1,13 @@
 -- The names that pass one defines stand in ascending order, and there are at most 512.
+use Rattle.std.specs.Prelude.{Option, Some, None}
 use Prim.Native.Nat.{ℕ, ◌+◌, ◌≤◌, ◌<◌}
 use mathlib.Core.List.{List, [], ◌∷◌}
 use mathlib.Core.Path.{◌≡◌, sym, ◌∙◌}
-use mathlib.Core.Bool.{Bool, true, false}
+use mathlib.Core.Bool.{true}
 use native.Mathlib.Omega.{arith}
 use lib.ListN.{length}
-use lib.Dec.{eqb}
 use Rattle.values.proofs.Laws.{clash}
-use Rattle.values.specs.Tests.{pick}
 use Rattle.names.specs.declared.Name.{Name}
-use Rattle.values.specs.declared.MaybeValue.{MaybeValue}
-use Rattle.values.specs.declared.MaybeValue.TheVariants.{Is, Nothing}
-use Rattle.names.specs.declared.Meaning.TheVariants.{Unknown}
 use Rattle.names.specs.Names.{find, defined, ascending, name_refusal}
 use Rattle.names.proofs.Names.{defined-length, refusal_none, ascending-defined}
 use Rattle.lines.specs.declared.Line.{Line}
@@ -21,34 +17,35 @@ use Rattle.lines.specs.Lines.{reading_of}
 use Rattle.passes.specs.declared.Phase.{Phase}
 use Rattle.passes.specs.declared.Phase.TheVariants.{Before, Within, Ended}
 use Rattle.passes.specs.Cards.{name_value, name_length}
-use Rattle.passes.specs.One.{State, most_names, if_named, defined_as, names_after, reading_no, reading_step, one_no, step_one, pass_one, ended_as}
+use Rattle.passes.specs.One.{State, most_names, if_named, with_name, defined_as, names_after, reading_no, reading_step, one_no, step_one, pass_one, ended_as}
 use Rattle.passes.specs.One.Passed.{through}
 use Rattle.passes.proofs.Turns.{pass-end, pass_turn}
 use Rattle.passes.proofs.Fine.{fine, one-zero}
+use Rattle.values.specs.declared.Value.{Value}
 
 -- what is kept by every name that is new, where there is room for it, is kept by a line
-after_keeps : (P : List Name → Type 0) (st : State) (s : List ℕ) (l : Line) → if_named l.name (name_refusal most_names st.names l.name) ≡ 0
-    → ((x : Name) → find st.names x.number ≡ Unknown → length st.names < most_names → P (defined x st.names))
+after_keeps : (P : List Name → Type 0) (st : State) (s : List ℕ) (l : Line) → if_named l.name (name_refusal most_names st.names) ≡ 0
+    → ((x : Name) → find st.names x.number ≡ None → length st.names < most_names → P (defined x st.names))
     → P st.names → P (names_after st s l)
 unfolding names_after
-after_keeps P st s l e d p = go (name_value (find st.names) st.counter s l) (eqb l.name 0) e
+after_keeps P st s l e d p = go (name_value (find st.names) st.counter s l) l.name e
   where
-    go : (v : MaybeValue) (b : Bool) → pick b 0 (name_refusal most_names st.names l.name) ≡ 0
-        → P (pick b st.names (defined_as l.name v (name_length l.operation l.shape) st.names))
-    go v true e = p
-    go (Is v) false e = let r = refusal_none most_names st.names l.name e in d _ r.0 r.1
-    go Nothing false e = p
+    go : (v : Option Value) (n : Option ℕ) → if_named n (name_refusal most_names st.names) ≡ 0
+        → P (with_name n (λ name. defined_as name v (name_length l.operation l.shape) st.names) st.names)
+    go v None e = p
+    go (Some v) (Some name) e = let r = refusal_none most_names st.names name e in d _ r.0 r.1
+    go None (Some name) e = p
 
-after-ascending : (st : State) (s : List ℕ) (l : Line) → if_named l.name (name_refusal most_names st.names l.name) ≡ 0
+after-ascending : (st : State) (s : List ℕ) (l : Line) → if_named l.name (name_refusal most_names st.names) ≡ 0
     → ascending st.names ≡ true → ascending (names_after st s l) ≡ true
 after-ascending st s l e h = after_keeps (λ ns. ascending ns ≡ true) st s l e (λ x n f. ascending-defined x st.names h n) h
 
-after-few : (st : State) (s : List ℕ) (l : Line) → if_named l.name (name_refusal most_names st.names l.name) ≡ 0
+after-few : (st : State) (s : List ℕ) (l : Line) → if_named l.name (name_refusal most_names st.names) ≡ 0
     → length st.names ≤ most_names → length (names_after st s l) ≤ most_names
 after-few st s l e h = after_keeps (λ ns. length ns ≤ most_names) st s l e (λ x n f. omega (arith, defined-length x st.names)) h
 
 -- what every new name keeps, a pass keeps
-module _ (P : List Name → Type 0) (keeps : (st : State) (s : List ℕ) (l : Line) → if_named l.name (name_refusal most_names st.names l.name) ≡ 0 → P st.names → P (names_after st s l)) where
+module _ (P : List Name → Type 0) (keeps : (st : State) (s : List ℕ) (l : Line) → if_named l.name (name_refusal most_names st.names) ≡ 0 → P st.names → P (names_after st s l)) where
   step_keeps : (st : State) (s : List ℕ) → one_no st s ≡ 0 → P st.names → P (step_one st s).names
   unfolding step_one
   step_keeps st s e p = go (reading_of s) (one-zero st s e).2

@@ -1,4 +1,5 @@
 -- A turn of each pass: the first card goes through, or the pass stops at it.
+use Rattle.std.specs.Prelude.{Option}
 use Prim.Native.Nat.{ℕ, ◌+◌}
 use mathlib.Core.List.{List, [], ◌∷◌}
 use mathlib.Core.Path.{◌≡◌, refl}
@@ -39,19 +40,19 @@ pass_turn k st a s ss h = go (eqb (one_no st s) 0) refl h
 
 -- PASS TWO
 
-pub check-more : (look : ℕ → Meaning) (k : ℕ) (c : Course) (s : List ℕ) (ss : List (List ℕ)) → two_no look c s ≡ 0 → check_two look k c (s ∷ ss) ≡ check_two look (k + 1) (step_two look c s) ss
+pub check-more : (look : ℕ → Option Meaning) (k : ℕ) (c : Course) (s : List ℕ) (ss : List (List ℕ)) → two_no look c s ≡ 0 → check_two look k c (s ∷ ss) ≡ check_two look (k + 1) (step_two look c s) ss
 unfolding check_two
 check-more look k c s ss h = rw (eq-eqb _ _ h)
 
-pub check-stop : (look : ℕ → Meaning) (k : ℕ) (c : Course) (s : List ℕ) (ss : List (List ℕ)) → (two_no look c s ≡ 0 → ⊥) → check_two look k c (s ∷ ss) ≡ bad (two_no look c s) k
+pub check-stop : (look : ℕ → Option Meaning) (k : ℕ) (c : Course) (s : List ℕ) (ss : List (List ℕ)) → (two_no look c s ≡ 0 → ⊥) → check_two look k c (s ∷ ss) ≡ bad (two_no look c s) k
 unfolding check_two
 check-stop look k c s ss h = rw (ne_eqb _ _ h)
 
-pub check-end : (look : ℕ → Meaning) (k : ℕ) (c : Course) → check_two look k c [] ≡ clean
+pub check-end : (look : ℕ → Option Meaning) (k : ℕ) (c : Course) → check_two look k c [] ≡ clean
 unfolding check_two
 check-end look k c = refl
 
-pub check_turn : (look : ℕ → Meaning) (k : ℕ) (c : Course) (s : List ℕ) (ss : List (List ℕ)) → check_two look k c (s ∷ ss) ≡ clean
+pub check_turn : (look : ℕ → Option Meaning) (k : ℕ) (c : Course) (s : List ℕ) (ss : List (List ℕ)) → check_two look k c (s ∷ ss) ≡ clean
     → (two_no look c s ≡ 0) × (check_two look (k + 1) (step_two look c s) ss ≡ clean)
 unfolding check_two
 check_turn look k c s ss h = go (eqb (two_no look c s) 0) refl h

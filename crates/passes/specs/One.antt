@@ -1,7 +1,6 @@
 -- R13.2 to R13.4: pass one, its refusals on each card, and what it keeps between two cards.
-use Rattle.std.specs.Prelude.{ℕ, ◌+◌, List, [], ◌∷◌, Bool, true, leb, eqb}
+use Rattle.std.specs.Prelude.{Some, None, Option, ℕ, ◌+◌, List, [], ◌∷◌, Bool, true, leb, eqb, Result}
 use Rattle.values.specs.Tests.{pick, or_else}
-use Rattle.values.specs.declared.MaybeValue.{MaybeValue}
 use Rattle.values.specs.Values.{amount_of, with_value}
 use Rattle.names.specs.declared.Name.{Name}
 use Rattle.names.specs.declared.Meaning.{Meaning}
@@ -24,6 +23,7 @@ use Rattle.lines.specs.Lines.{reading_of, shape_no}
 use Rattle.passes.specs.declared.Phase.{Phase}
 use Rattle.passes.specs.declared.Phase.TheVariants.{Before, Within, Ended}
 use Rattle.passes.specs.Cards.{operands_at, counter_after, name_value, name_length}
+use Rattle.values.specs.declared.Value.{Value}
 
 -- between two cards: the counter, the names defined, and whether START and END have been
 pub record State : Type 0 where
@@ -67,9 +67,10 @@ start_no Ended r = again_no r
 abbrev pub most_names : ℕ
 most_names = 512
 
--- a rule for names, of a card that has one: the number 0 is no name
-abbrev pub if_named : ℕ → ℕ → ℕ
-if_named name n = pick (eqb name 0) 0 n
+-- a rule for names, of a card that has one
+abbrev pub if_named : Option ℕ → (ℕ → ℕ) → ℕ
+if_named (Some name) rule = rule name
+if_named None rule = 0
 
 -- R7.7, R13.4: 18 to 20 of EQU and ORG, over the names of earlier cards
 abbrev pub early_by : Role → Operation → Operands → ℕ
@@ -79,25 +80,25 @@ early_by SetsCounter op x = expressions_no op x
 early_by Ends op x = 0
 early_by Advances op x = 0
 
-unfoldable pub early_no : (ℕ → Meaning) → ℕ → List ℕ → Line → ℕ
+unfoldable pub early_no : (ℕ → Option Meaning) → ℕ → List ℕ → Line → ℕ
 early_no look counter s l = early_by (role_of l.operation) l.operation (operands_at look counter s l)
 
 -- R13.7: m is in its range, or the card has none
-abbrev pub m_fits : Shape → Bool
+abbrev pub m_fits : Result Shape ℕ → Bool
 m_fits x = of_data x length_fits true
 
 -- R3.7, R13.7: 20 of a name's value, where m is in its range
 abbrev pub amount_over : ℕ → ℕ
 amount_over n = pick (leb n 65535) 0 20
 
-abbrev pub over : MaybeValue → ℕ
+abbrev pub over : Option Value → ℕ
 over v = with_value v (λ x. amount_over (amount_of x)) 0
 
-unfoldable pub over_no : (ℕ → Meaning) → ℕ → List ℕ → Line → ℕ
+unfoldable pub over_no : (ℕ → Option Meaning) → ℕ → List ℕ → Line → ℕ
 over_no look counter s l = pick (m_fits l.shape) (over (name_value look counter s l)) 0
 
 -- R13.4: 21 of DC and DS
-abbrev pub sizes_no : Shape → ℕ
+abbrev pub sizes_no : Result Shape ℕ → ℕ
 sizes_no x = of_data x data_no 0
 
 -- R7.2: 24, bytes beyond 65536
@@ -107,9 +108,9 @@ room_no counter size = pick (leb (counter + size) 65536) 0 24
 -- R13.3: the lowest that holds of 16 to 24
 unfoldable pub value_no : State → List ℕ → Line → ℕ
 value_no st s l =
-    or_else (if_named l.name (name_refusal most_names st.names l.name))
+    or_else (if_named l.name (name_refusal most_names st.names))
     (or_else (early_no (find st.names) st.counter s l)
-    (or_else (if_named l.name (over_no (find st.names) st.counter s l))
+    (or_else (if_named l.name (λ name. over_no (find st.names) st.counter s l))
     (or_else (sizes_no l.shape) (room_no st.counter (size_of l.operation l.shape)))))
 
 -- R13.3: 12 to 15 before them
@@ -132,14 +133,19 @@ one_no st s = or_else (after_end_no st.phase) (or_else (byte_no s) (reading_no s
 -- WHAT A CARD DOES
 
 -- R3.6: a name is defined where it has a value
-abbrev pub defined_as : ℕ → MaybeValue → ℕ → List Name → List Name
+abbrev pub defined_as : ℕ → Option Value → ℕ → List Name → List Name
 defined_as number v length names = with_value v (λ x. defined (record { number = number; value = x; length = length }) names) names
 
 -- a name more, where the line has one
+abbrev pub with_name : Option ℕ → (ℕ → List Name) → List Name → List Name
+with_name (Some name) more names = more name
+with_name None more names = names
+
 unfoldable pub names_after : State → List ℕ → Line → List Name
 names_after st s l =
-    pick (eqb l.name 0) st.names
-    (defined_as l.name (name_value (find st.names) st.counter s l) (name_length l.operation l.shape) st.names)
+    with_name l.name
+    (λ name. defined_as name (name_value (find st.names) st.counter s l) (name_length l.operation l.shape) st.names)
+    st.names
 
 abbrev pub phase_after : Role → Phase → Phase
 phase_after Starts p = Within

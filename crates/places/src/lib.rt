@@ -3,152 +3,86 @@
 
 pub mod codes;
 
-ghost use Rattle.std.specs.Prelude.{◌≡◌, ◌≤◌};
-ghost use Rattle.values.specs.Tests.{lower};
-ghost use Rattle.values.specs.Values.{with_absolute};
+ghost use Rattle.std.specs.Prelude.{◌≡◌, ◌-◌, ◌≤◌, Ok, Err, leb};
+ghost use Rattle.values.specs.Tests.{pick, both};
+ghost use Rattle.values.specs.Refusals.{number_in};
+ghost use Rattle.values.specs.declared.refusals.Refusal.TheVariants.{OutOfReach};
 ghost use Rattle.expressions.specs.Value.{value_in, absolute_in};
-ghost use Rattle.places.specs.declared.Placed.TheVariants.{Nothing};
-ghost use Rattle.places.specs.Places.{base_of, away_from, away_from_base, under_base, displaced_by, indexed_by, by_register, operand_of, placed_no, operand_size, jump_code, jump_to, reach_no, register_no, use_no, places_no, with_base, using_base, drop_base, registered_by, bases_by};
+ghost use Rattle.places.specs.Places.{away_from, displaced_by, indexed_by, operand_of, placed_no, operand_size, jump_to, register_no, use_no, places_no, with_base, using_base, drop_base, registered_by, bases_by};
 
-use codes::Code;
-use expressions::{Evaluated, absolute_in, relocatable_in, value_in};
-use operands::{EvaluatedAddress, EvaluatedItem, Operands};
+use expressions::{Fault, absolute_in, relocatable_in, value_in};
+use operands::{EvaluatedAddress, Operands};
 use operations::traits::Use;
-use values::numbers::lower_of;
-use values::{MaybeAbsolute, MaybeRelocatable, MaybeValue, Value};
+use values::refusals::{Refusal, lower_of};
+use values::{Absolute, Value};
 
-// A register's base, under a USING in force.
-#[derive(Clone, Copy)]
-pub enum Base {
-    Idle,
-    Of(Value),
-}
-
-#[derive(Clone, Copy)]
+// The base of each register, under a USING in force.
+#[derive(Clone, Copy, Debug, PartialEq, Eq)]
 pub struct Bases {
-    pub one: Base,
-    pub two: Base,
+    pub one: Option<Value>,
+    pub two: Option<Value>,
 }
 
 // An operand: direct, or by register 1 or 2 with its displacement byte.
-#[derive(Clone, Copy)]
+#[derive(Clone, Copy, Debug, PartialEq, Eq)]
 pub enum Operand {
     Direct(Value),
     Indexed(Value, u8, u8),
 }
 
-// An operand; or refusal 22 or 23; or that there is no value to place.
-#[derive(Clone, Copy)]
-pub enum Placed {
-    At(Operand),
-    NoBase,
-    OutOfReach,
-    Nothing,
-}
-
-fn base_of(bases: Bases, r: u16) -> Base
-    ensures { result ≡ base_of bases r }
+// How far one address is behind another, where a byte can hold it.
+fn reach(from: usize, to: usize) -> Result<u8, Refusal>
+    ensures { result ≡ pick (both (leb from to) (leb (to - from) 255)) (Ok (to - from)) (Err OutOfReach) }
 {
-    let one = bases.one;
-    let two = bases.two;
-    if r == 1 { one } else { two }
+    to.checked_sub(from)
+        .and_then(|distance| u8::try_from(distance).ok())
+        .ok_or(Refusal::OutOfReach)
 }
 
-// An operand by a register: its value's distance from a base, where a byte can hold it.
+// An operand by a register: its value's distance from a base.
 #[tactic(auto, unfolding(crate::specs::Places::away_from))]
-fn away_from(v: Value, r: u8, from: u16, amount: u16) -> Placed
+fn away_from(v: Value, r: u8, from: u16, amount: u16) -> Result<Option<Operand>, Refusal>
     ensures { result ≡ away_from v r from amount }
 {
-    if amount < from {
-        return Placed::OutOfReach;
-    }
-    if 255 < amount - from {
-        return Placed::OutOfReach;
-    }
-    let displacement = (amount - from) as u8;
-    Placed::At(Operand::Indexed(v, r, displacement))
+    let displacement = reach(usize::from(from), usize::from(amount))?;
+    Ok(Some(Operand::Indexed(v, r, displacement)))
 }
 
-fn away_from_base(v: Value, r: u8, amount: u16, base: Value) -> Placed
-    ensures { result ≡ away_from_base v r amount base }
-{
-    match base {
-        Value::Absolute(_) => Placed::NoBase,
-        Value::Relocatable(b) => away_from(v, r, b.0, amount),
-    }
-}
-
-fn under_base(v: Value, r: u8, amount: u16, base: Base) -> Placed
-    ensures { result ≡ under_base v r amount base }
-{
-    match base {
-        Base::Idle => Placed::NoBase,
-        Base::Of(b) => away_from_base(v, r, amount, b),
-    }
-}
-
+// An absolute address is the byte itself; a relocatable one is told from a relocatable base.
 #[tactic(auto, unfolding(crate::specs::Places::displaced_by))]
-fn displaced(v: Value, r: u8, base: Base) -> Placed
+fn displaced_by(v: Value, r: u8, base: Option<Value>) -> Result<Option<Operand>, Refusal>
     ensures { result ≡ displaced_by v r base }
 {
-    match v {
-        Value::Absolute(a) => away_from(v, r, 0, a.0),
-        Value::Relocatable(a) => under_base(v, r, a.0, base),
+    match (v, base) {
+        (Value::Absolute(a), _) => away_from(v, r, 0, a.0),
+        (Value::Relocatable(a), Some(Value::Relocatable(b))) => away_from(v, r, b.0, a.0),
+        _ => Err(Refusal::NoBase),
     }
 }
 
 #[tactic(auto, unfolding(crate::specs::Places::indexed_by))]
-fn indexed(bases: Bases, v: Value, r: u16) -> Placed
+fn indexed_by(bases: Bases, v: Value, r: u16) -> Result<Option<Operand>, Refusal>
     ensures { result ≡ indexed_by bases v r }
 {
-    if r < 1 {
-        return Placed::NoBase;
-    }
-    if r <= 2 {
-        displaced(v, r as u8, base_of(bases, r))
-    } else {
-        Placed::NoBase
+    match r {
+        1 => displaced_by(v, 1, bases.one),
+        2 => displaced_by(v, 2, bases.two),
+        _ => Err(Refusal::NoBase),
     }
 }
 
-#[tactic(auto, unfolding(crate::specs::Places::indexed_by))]
-fn indexed_by(bases: Bases, v: Value, register: MaybeAbsolute) -> Placed
-    ensures { result ≡ with_absolute register (indexed_by bases v) Nothing }
-{
-    match register {
-        MaybeAbsolute::Is(r) => indexed(bases, v, r.0),
-        MaybeAbsolute::Nothing => Placed::Nothing,
-    }
-}
-
-fn by_register(bases: Bases, v: Value, register: EvaluatedItem) -> Placed
-    ensures { result ≡ by_register bases v register }
-{
-    match register {
-        EvaluatedItem::Absent => Placed::At(Operand::Direct(v)),
-        EvaluatedItem::Of(e) => indexed_by(bases, v, absolute_in(e)),
-    }
-}
-
+// Direct where no register is written; an operand without a value has no place.
 #[tactic(auto, unfolding(crate::specs::Places::operand_of))]
-pub fn operand_of(bases: Bases, a: EvaluatedAddress) -> Placed
+pub fn operand_of(bases: Bases, a: EvaluatedAddress) -> Result<Option<Operand>, Refusal>
     ensures { result ≡ operand_of bases a }
 {
-    let address = a.address;
-    let register = a.register;
-    match value_in(address) {
-        MaybeValue::Is(v) => by_register(bases, v, register),
-        MaybeValue::Nothing => Placed::Nothing,
-    }
-}
-
-pub fn placed_no(p: Placed) -> u8
-    ensures { result ≡ placed_no p }
-{
-    match p {
-        Placed::NoBase => 22,
-        Placed::OutOfReach => 23,
-        _ => 0,
+    match (value_in(a.address), a.register) {
+        (Some(v), None) => Ok(Some(Operand::Direct(v))),
+        (Some(v), Some(register)) => match absolute_in(register) {
+            Some(r) => indexed_by(bases, v, r.0),
+            None => Ok(None),
+        },
+        (None, _) => Ok(None),
     }
 }
 
@@ -163,130 +97,88 @@ pub fn operand_size(x: Operand) -> usize
 
 // A jump's byte: from the next instruction's address to the target.
 #[tactic(auto, unfolding(crate::specs::Places::jump_code))]
-fn jump_code(next: usize, target: u16) -> Code
-    ensures { result ≡ jump_code next target }
-{
-    let to = target as usize;
-    if to < next {
-        return Code::OutOfRange;
-    }
-    if 255 < to - next {
-        return Code::OutOfRange;
-    }
-    Code::Byte((to - next) as u8)
-}
-
-pub fn jump_to(next: usize, target: Evaluated) -> Code
+pub fn jump_to(next: usize, target: Result<Value, Fault>) -> Result<Option<u8>, Refusal>
     ensures { result ≡ jump_to next target }
 {
     match relocatable_in(target) {
-        MaybeRelocatable::Is(to) => jump_code(next, to.0),
-        MaybeRelocatable::Nothing => Code::Nothing,
+        Some(to) => reach(next, usize::from(to.0)).map(Some),
+        None => Ok(None),
     }
 }
 
-fn reach_no(c: Code) -> u8
-    ensures { result ≡ reach_no c }
-{
-    match c {
-        Code::OutOfRange => 23,
-        _ => 0,
-    }
-}
-
-fn register_no(register: MaybeAbsolute) -> u8
-    ensures { result ≡ register_no register }
+// 22 of USING and DROP.
+fn check_register(register: Option<Absolute>) -> Result<(), Refusal>
+    ensures { number_in result ≡ register_no register }
 {
     match register {
-        MaybeAbsolute::Is(r) => {
-            if r.0 < 1 {
-                return 22;
-            }
-            if 2 < r.0 { 22 } else { 0 }
-        }
-        MaybeAbsolute::Nothing => 0,
+        Some(r) if !(1..=2).contains(&r.0) => Err(Refusal::NoBase),
+        _ => Ok(()),
     }
 }
 
-fn use_no(u: Use, next: usize, first: Evaluated, last: Evaluated) -> u8
-    ensures { result ≡ use_no u next first last }
+// `next`: the address behind the card.
+fn check_use(
+    u: Use,
+    next: usize,
+    first: Result<Value, Fault>,
+    last: Result<Value, Fault>,
+) -> Result<(), Refusal>
+    ensures { number_in result ≡ use_no u next first last }
 {
     match u {
-        Use::Jumps => reach_no(jump_to(next, first)),
-        Use::Registers => register_no(absolute_in(last)),
-        Use::Nothing => 0,
+        Use::Jumps => jump_to(next, first).map(|_| ()),
+        Use::Registers => check_register(absolute_in(last)),
+        Use::Nothing => Ok(()),
     }
 }
 
-#[tactic(auto, unfolding(crate::specs::Places::operand_of))]
-fn address_place_no(bases: Bases, a: EvaluatedAddress) -> u8
-    ensures { result ≡ placed_no (operand_of bases a) }
+fn check_place(bases: Bases, a: EvaluatedAddress) -> Result<(), Refusal>
+    ensures { number_in result ≡ placed_no (operand_of bases a) }
 {
-    placed_no(operand_of(bases, a))
-}
-
-#[tactic(auto, unfolding(values::specs::Tests::lower, crate::specs::Places::operand_of))]
-fn two_places_no(bases: Bases, a: EvaluatedAddress, b: EvaluatedAddress) -> u8
-    ensures { result ≡ lower (placed_no (operand_of bases a)) (placed_no (operand_of bases b)) }
-{
-    lower_of(address_place_no(bases, a), address_place_no(bases, b))
+    operand_of(bases, a).map(|_| ())
 }
 
 // `next`: the address behind the card.
 #[tactic(auto, unfolding(crate::specs::Places::places_no))]
-pub fn places_no(u: Use, x: Operands, next: usize, bases: Bases) -> u8
-    ensures { result ≡ places_no u x next bases }
+pub fn check_places(u: Use, x: Operands, next: usize, bases: Bases) -> Result<(), Refusal>
+    ensures { number_in result ≡ places_no u x next bases }
 {
     match x {
-        Operands::TwoAddresses(a, b) => two_places_no(bases, a, b),
-        Operands::AddressAndCode(a, _) => address_place_no(bases, a),
-        Operands::LoneAddress(a) => address_place_no(bases, a),
-        Operands::Pair(e, last) => use_no(u, next, e, last),
-        Operands::Lone(e) => use_no(u, next, e, e),
-        _ => 0,
+        Operands::TwoAddresses(a, b) => lower_of(check_place(bases, a), check_place(bases, b)),
+        Operands::AddressAndCode(a, _) | Operands::LoneAddress(a) => check_place(bases, a),
+        Operands::Pair(e, last) => check_use(u, next, e, last),
+        Operands::Lone(e) => check_use(u, next, e, e),
+        _ => Ok(()),
     }
 }
 
-fn with_base(bases: Bases, r: u16, base: Base) -> Bases
+fn with_base(bases: Bases, r: u16, base: Option<Value>) -> Bases
     ensures { result ≡ with_base bases r base }
 {
-    let one = bases.one;
-    let two = bases.two;
-    if r == 1 {
-        return Bases {
-            one: base,
-            two: two,
-        };
+    match r {
+        1 => Bases { one: base, ..bases },
+        2 => Bases { two: base, ..bases },
+        _ => bases,
     }
-    if r == 2 {
-        return Bases {
-            one: one,
-            two: base,
-        };
-    }
-    bases
 }
 
 // Behind a USING its base is in force.
-fn using_base(bases: Bases, register: Evaluated, base: Evaluated) -> Bases
+fn using_base(bases: Bases, register: Result<Value, Fault>, base: Result<Value, Fault>) -> Bases
     ensures { result ≡ using_base bases (absolute_in register) (value_in base) }
 {
-    match absolute_in(register) {
-        MaybeAbsolute::Is(r) => match value_in(base) {
-            MaybeValue::Is(v) => with_base(bases, r.0, Base::Of(v)),
-            MaybeValue::Nothing => bases,
-        },
-        MaybeAbsolute::Nothing => bases,
+    match (absolute_in(register), value_in(base)) {
+        (Some(r), Some(v)) => with_base(bases, r.0, Some(v)),
+        _ => bases,
     }
 }
 
 // Behind a DROP none is.
-fn drop_base(bases: Bases, register: Evaluated) -> Bases
+fn drop_base(bases: Bases, register: Result<Value, Fault>) -> Bases
     ensures { result ≡ drop_base bases (absolute_in register) }
 {
     match absolute_in(register) {
-        MaybeAbsolute::Is(r) => with_base(bases, r.0, Base::Idle),
-        MaybeAbsolute::Nothing => bases,
+        Some(r) => with_base(bases, r.0, None),
+        None => bases,
     }
 }
 

@@ -5,15 +5,23 @@ use mathlib.Core.Path.{◌≡◌, refl, sym, ap, ◌∙◌}
 use native.Mathlib.Omega.{arith}
 use lib.ListN.{length, get_or, drop, set, length-append, drop_of_length-le}
 use lib.Seq.{sets}
-use borrow.Author.Tests.{lt-ltb, le-ltb, le-leb, lt-leb, eq-eqb, ne_eqb}
+use borrow.Author.Tests.{lt-ltb, le-ltb, le-leb, lt-leb, eq-eqb, ne_eqb, eqb-true, eqb-false}
 use Rattle.values.specs.Words.{two_bytes, part}
 use Rattle.values.proofs.Laws.{drop_turn, part_length, then}
 use Rattle.book.specs.Book.{Record, rest_head}
-use Rattle.book.specs.Reading.{layout_of, records_in}
-use Rattle.book.specs.declared.Entry.{Entry}
-use Rattle.book.specs.declared.Layout.TheVariants.{Whole, Broken}
+use Rattle.book.specs.Reading.{layout_of, records_in, Kept}
+use Rattle.book.specs.Writing.{fair_all}
+use Rattle.book.proofs.Laws.{fields-few}
+use Rattle.book.proofs.Written.{fair-first, read-fair}
+use Rattle.std.specs.List.{sum_by}
+use Rattle.std.proofs.lemmas.List.Sums.{sum_by-cons}
+use mathlib.Core.Bool.{Bool, true, false}
+use lib.Dec.{eqb}
 use Rattle.book.proofs.Turns.{book-none, book-is}
 use Rattle.print.specs.Print.{hex_digit, hex_bytes, column, header_line, offsets, head_columns, record_line, record_lines, book_lines, printed, refused50, refused57, where_room, offsets_length, line_length}
+use Rattle.std.specs.Prelude.{Option, Ok, Err}
+use Rattle.values.specs.declared.Relocatable.{Relocatable}
+use Rattle.book.specs.Reading.{broken}
 
 -- COLUMNS
 
@@ -43,8 +51,8 @@ pub column_turn : (m : List ℕ) (at : ℕ) (bs : List ℕ) (i end a b : ℕ) �
     → sets m at (column (drop i bs) end) ≡ sets (set (set m at a) (at + 1) b) (at + 2) (column (drop (i + 1) bs) end)
 column_turn m at bs i end a b h p q = rw (drop_turn bs i h, column-more, sets-two, p, q)
 
-pub column-last : (m : List ℕ) (at : ℕ) (bs : List ℕ) (i end : ℕ) → length bs ≤ i → sets m at (column (drop i bs) end) ≡ set m at end
-column-last m at bs i end h = rw (drop_of_length-le bs h, column-none)
+pub column_last : (m : List ℕ) (at : ℕ) (bs : List ℕ) (i end : ℕ) → length bs ≤ i → sets m at (column (drop i bs) end) ≡ set m at end
+column_last m at bs i end h = rw (drop_of_length-le bs h, column-none)
 
 -- ONE WRITE AFTER ANOTHER
 
@@ -54,21 +62,18 @@ then-column m m₁ m₂ at p bs end vs a b c = then m m₁ m₂ at p (column bs 
 
 -- LINES
 
-pub offsets-none : (os : List ℕ) → length os ≡ 0 → offsets os ≡ 45 ∷ 32 ∷ []
-unfolding offsets
-offsets-none [] h = refl
-offsets-none (o ∷ os) h = absurd (omega arith)
-
-pub offsets-some : (os : List ℕ) → (length os ≡ 0 → ⊥) → offsets os ≡ column os 32
-unfolding offsets
-offsets-some [] h = absurd (h refl)
-offsets-some (o ∷ os) h = refl
-
 pub length_none : (count : ℕ) → count ≡ 0 → offsets_length count ≡ 2
 length_none count e = rw (eq-eqb count 0 e)
 
 pub length_some : (count : ℕ) → (count ≡ 0 → ⊥) → offsets_length count ≡ 2 * count + 1
 length_some count e = rw (ne_eqb count 0 e)
+
+pub offsets-most : (count most : ℕ) → count ≤ most → 1 ≤ most → offsets_length count ≤ 2 * most + 1
+offsets-most count most h k = go (eqb count 0) refl
+  where
+    go : (b : Bool) → eqb count 0 ≡ b → offsets_length count ≤ 2 * most + 1
+    go true e = let n = length_none count (eqb-true count 0 e) in omega arith
+    go false e = let n = length_some count (eqb-false count 0 e) in omega arith
 
 pub offsets-length : (os : List ℕ) → length (offsets os) ≡ offsets_length (length os)
 unfolding offsets
@@ -116,6 +121,33 @@ pub lines_none : record_lines [] ≡ []
 unfolding record_lines
 lines_none = refl
 
+-- how long the lines are together: each at most 788 bytes
+pub lines_sum : (rs : List Record) → length (record_lines rs) ≡ sum_by (λ r. line_length (length r.fields) (length r.text)) rs
+lines_sum [] = ap length lines_none
+lines_sum (r ∷ rs) =
+    let others = lines_sum rs in
+    let here = line-length r _ _ refl refl in
+    let sum = sum_by-cons (λ r. line_length (length r.fields) (length r.text)) r rs in
+    ap length (lines_first r rs) ∙ length-append (record_line r) (record_lines rs) ∙ omega arith
+
+lines_most : (rs : List Record) (last : ℕ) → fair_all last rs ≡ true → last ≤ 4000 → length (record_lines rs) + 788 * last ≤ 3152000
+lines_most [] last e h = let none = ap length lines_none in omega arith
+lines_most (r ∷ rs) last e h =
+    let (f, others) = fair-first last r rs e in
+    let most = lines_most rs r.card others f.card in
+    let few = fields-few 0 (length r.text) r.fields f.inside (omega arith) in
+    let here = line-length r _ _ refl refl in
+    let short = f.short in
+    let rise = f.rise in
+    let offsets = offsets-most (length r.fields) 128 (omega arith) (omega arith) in
+    let more = ap length (lines_first r rs) ∙ length-append (record_line r) (record_lines rs) in
+    omega arith
+
+pub lines_fit : (s : List ℕ) → Kept s → length (record_lines (records_in s)) ≤ 3152000
+lines_fit s (e, q) =
+    let most = lines_most (records_in s) 0 (read-fair s _ (book-is s e q)) (omega arith) in
+    omega arith
+
 -- THE WHOLE
 
 pub room : (bs m : List ℕ) → length bs ≤ length m → where_room bs m ≡ sets m 0 bs
@@ -130,11 +162,11 @@ pub is-long : (s : List ℕ) → 65536 < length s → printed s ≡ refused57
 unfolding printed
 is-long s h = rw (lt-ltb _ _ h)
 
-pub is_broken_lem : (s : List ℕ) → length s ≤ 65536 → Broken ≡ layout_of s → printed s ≡ refused50
+pub is_broken_lem : (s : List ℕ) → length s ≤ 65536 → (Err broken) ≡ layout_of s → printed s ≡ refused50
 unfolding printed
 is_broken_lem s h e = rw (le-ltb _ _ h, book-none s e)
 
-pub is_whole : (s : List ℕ) (e : Entry) → length s ≤ 65536 → Whole e ≡ layout_of s → printed s ≡ book_lines s
+pub is_whole : (s : List ℕ) (e : Option Relocatable) → length s ≤ 65536 → Ok e ≡ layout_of s → printed s ≡ book_lines s
 unfolding printed book_lines
 is_whole s e h q = rw (le-ltb _ _ h, book-is s e q)
 

@@ -3,7 +3,7 @@ use Prim.Native.Nat.{ℕ, ◌+◌, ◌*◌, ◌≤◌}
 use mathlib.Core.List.{List, [], ◌∷◌}
 use mathlib.Core.Path.{◌≡◌, refl, ap, ◌∙◌}
 use mathlib.Core.Bool.{Bool, true, false}
-use mathlib.Core.Option.{some}
+use Rattle.std.specs.Prelude.{Some, Option, Result, Ok, Err}
 use native.Mathlib.Omega.{arith}
 use lib.ListN.{length, length-append}
 use lib.Dec.{ltb, eqb}
@@ -11,12 +11,13 @@ use borrow.Author.Tests.{eqb-true, eqb-false, ltb-true, ltb-false}
 use Rattle.values.proofs.Laws.{part_length}
 use Rattle.book.specs.Book.{Record, record_head, records_from, count_at, size_at, next_at, record_at}
 use Rattle.book.specs.Reading.{layout_of, records_in}
-use Rattle.book.specs.declared.Layout.{Layout}
-use Rattle.book.specs.declared.Layout.TheVariants.{Whole, Broken}
 use Rattle.book.proofs.Laws.{Whole as WholeAt, text-length}
 use Rattle.book.proofs.Turns.{by-records, records-are, long_enough}
 use Rattle.print.specs.Print.{header_line, record_line, record_lines, printed, offsets_length}
 use Rattle.print.proofs.Laws.{line-length, lines_first, lines_none, lines_are, header_length, length_none, length_some, is-long, is_broken_lem, is_whole}
+use Rattle.values.specs.declared.Relocatable.{Relocatable}
+use Rattle.book.specs.declared.Broken.{Broken}
+use Rattle.book.specs.Reading.{broken}
 
 offsets-short : (count : ℕ) → offsets_length count ≤ 2 * count + 2
 offsets-short count = go (eqb count 0) refl
@@ -26,7 +27,7 @@ offsets-short count = go (eqb count 0) refl
     go false h = let n = length_some count (eqb-false count 0 h) in omega arith
 
 -- the lines of the records from a place on take at most three bytes for each byte from there on
-lines_short : (n : ℕ) (s : List ℕ) (at last : ℕ) (rs : List Record) → records_from n s at last ≡ some rs → length (record_lines rs) + 3 * at ≤ 3 * length s
+lines_short : (n : ℕ) (s : List ℕ) (at last : ℕ) (rs : List Record) → records_from n s at last ≡ Some rs → length (record_lines rs) + 3 * at ≤ 3 * length s
 lines_short n s = by-records s (λ at last rs. length (record_lines rs) + 3 * at ≤ 3 * length s) end more n
   where
     end : (last : ℕ) → length (record_lines []) + 3 * length s ≤ 3 * length s
@@ -48,10 +49,10 @@ lines_short n s = by-records s (λ at last rs. length (record_lines rs) + 3 * at
 pub printed-short : (s : List ℕ) → length (printed s) ≤ 196608
 printed-short s = go (ltb 65536 (length s)) (layout_of s) refl refl
   where
-    go : (b : Bool) (l : Layout) → ltb 65536 (length s) ≡ b → l ≡ layout_of s → length (printed s) ≤ 196608
+    go : (b : Bool) (l : Result (Option Relocatable) Broken) → ltb 65536 (length s) ≡ b → l ≡ layout_of s → length (printed s) ≤ 196608
     go true l h q = let p = ap length (is-long s (ltb-true 65536 (length s) h)) in omega arith
-    go false Broken h q = let p = ap length (is_broken_lem s (ltb-false 65536 (length s) h) q) in omega arith
-    go false (Whole e) h q =
+    go false (Err broken) h q = let p = ap length (is_broken_lem s (ltb-false 65536 (length s) h) q) in omega arith
+    go false (Ok e) h q =
         let small = ltb-false 65536 (length s) h in
         let n = lines_short (length s) s 8 0 (records_in s) (records-are s e q) in
         let long = header_length s (long_enough s e q) in

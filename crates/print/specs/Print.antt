@@ -1,6 +1,5 @@
 -- R18, what the printer writes: the lines of a book in hex, or one line that refuses it.
-use Rattle.std.specs.Prelude.{ℕ, ◌+◌, ◌*◌, ◌/◌, ◌%◌, List, [], ◌∷◌, ◌++◌, length, ltb, leb, eqb}
-use Rattle.std.proofs.Math.Option.{Option, none, some}
+use Rattle.std.specs.Prelude.{ℕ, ◌+◌, ◌*◌, ◌/◌, ◌%◌, List, [], ◌∷◌, ◌++◌, length, ltb, leb, eqb, Option, Some, None}
 use Rattle.std.proofs.lemmas.List.Edits.{sets}
 use Rattle.values.specs.Tests.{pick}
 use Rattle.values.specs.Words.{two_bytes, part}
@@ -53,8 +52,8 @@ refused57 = 82 ∷ 69 ∷ 70 ∷ 85 ∷ 83 ∷ 69 ∷ 68 ∷ 32 ∷ 53 ∷ 55 �
 
 -- R18.2 to R18.4: REFUSED 50 where the book breaks its layout, else its lines
 abbrev pub lines_of : List ℕ → Option Book → List ℕ
-lines_of s none = refused50
-lines_of s (some b) = header_line s ++ record_lines b.records
+lines_of s None = refused50
+lines_of s (Some b) = header_line s ++ record_lines b.records
 
 -- R18.1: what is written for an input: 57 where it is over 65,536 bytes, before 50
 unfoldable pub printed : List ℕ → List ℕ

@@ -4,7 +4,7 @@
 ghost use Rattle.std.specs.Prelude.{◌≡◌};
 ghost use Rattle.book.specs.Reading.{step_at};
 
-use book::{Cursor, Step};
+use book::{Broken, Cursor, Place};
 
 // The lent book, and the place that its reader has got to.
 #[derive(Clone, Copy)]
@@ -25,7 +25,7 @@ impl<'a> BookReader<'a> {
     }
 
     // The record at the reader's place, with the place behind it; the end, or a broken layout.
-    pub fn step(self) -> Step
+    pub fn step(self) -> Result<Option<(Place, Cursor)>, Broken>
         ensures { result ≡ step_at self.entry.book.now self.entry.place.at self.entry.place.card }
     {
         self.place.next(self.book)
@@ -43,14 +43,14 @@ impl<'a> BookReader<'a> {
 }
 
 // The first record of a book, for a caller with a plain slice.
-pub fn first_record(book: &[u8]) -> Step
+pub fn first_record(book: &[u8]) -> Result<Option<(Place, Cursor)>, Broken>
     ensures { result ≡ step_at book.now 8 0 }
 {
     BookReader::open(book).step()
 }
 
 // The record at a place of a book, for a caller with a plain slice that goes on from record to record.
-pub fn record_at(book: &[u8], place: Cursor) -> Step
+pub fn record_at(book: &[u8], place: Cursor) -> Result<Option<(Place, Cursor)>, Broken>
     ensures { result ≡ step_at book.now place.at place.card }
 {
     BookReader::open(book).moved(place).step()

@@ -3,14 +3,11 @@ use Prim.Native.Nat.{ℕ, ◌<◌}
 use mathlib.Core.List.{List}
 use mathlib.Core.Path.{◌≡◌, refl, ap}
 use Rattle.values.specs.declared.Value.{Value}
-use Rattle.values.specs.declared.MaybeValue.{MaybeValue}
 use Rattle.values.specs.declared.Wanted.TheVariants.{OnlyRelocatable}
 use Rattle.values.specs.Values.{amount_of}
 use Rattle.values.proofs.Laws.{clash}
-use Rattle.values.proofs.Refusals.{or_zero, lower-zero}
+use Rattle.values.proofs.Numbers.{or_zero, lower-zero}
 use Rattle.names.specs.declared.Meaning.{Meaning}
-use Rattle.expressions.specs.declared.Evaluated.{Evaluated}
-use Rattle.expressions.specs.declared.Evaluated.TheVariants.{Good, Malformed, Undefined, WrongKind, OutOfRange}
 use Rattle.expressions.specs.Form.{expression_at}
 use Rattle.expressions.specs.Value.{evaluated, value_in, refusal_for}
 use Rattle.expressions.proofs.Laws.{accepted, value-fits}
@@ -19,22 +16,23 @@ use Rattle.operations.specs.declared.traits.Use.{Use}
 use Rattle.operations.specs.Traits.{first_wanted, use_of}
 use Rattle.data.specs.declared.DataCard.{DataCard}
 use Rattle.data.specs.declared.DataType.{DataType}
-use Rattle.addresses.specs.declared.Item.{Item}
 use Rattle.forms.specs.declared.Shape.{Shape}
 use Rattle.forms.specs.Size.{address_size}
 use Rattle.operands.specs.declared.EvaluatedAddress.{EvaluatedAddress}
 use Rattle.operands.specs.declared.Operands.{Operands}
 use Rattle.operands.specs.Operands.{item_of, operands_of, by_type, by_card}
 use Rattle.operands.specs.Kinds.{constant_wanted, expressions_no}
-use Rattle.places.specs.declared.codes.Code.{Code}
 use Rattle.places.specs.declared.Bases.{Bases}
 use Rattle.places.specs.declared.Operand.{Operand}
-use Rattle.places.specs.declared.Placed.{Placed}
 use Rattle.places.specs.Codes.{code_of, code_no}
 use Rattle.places.specs.Places.{operand_of, jump_to, places_no}
 use Rattle.places.proofs.Laws.{code-there, jump-there, item_size, OperandThere, operand-there}
 use Rattle.statements.specs.declared.Statement.{Statement}
 use Rattle.statements.specs.Statements.{next_of, statement_no, two_of, one_of, jump_of, constants_of, statement_from, lone_value}
+use Rattle.std.specs.Prelude.{Option, Some, None, Result, Ok, Err}
+use Rattle.expressions.specs.declared.Fault.{Fault}
+use Rattle.values.specs.declared.refusals.Refusal.{Refusal}
+use Rattle.expressions.specs.declared.Fault.TheVariants.{Malformed, Undefined, WrongKind, OutOfRange}
 
 -- ACCEPTED
 
@@ -67,9 +65,9 @@ pub record JumpThere (s : Statement) : Type 0 where
   pub byte : ℕ
   pub is : s ≡ Statement.Jump q byte
 
-pub record ConstantsThere (copies length : ℕ) (e : Evaluated) (s : Statement) : Type 0 where
+pub record ConstantsThere (copies length : ℕ) (e : Result Value Fault) (s : Statement) : Type 0 where
   pub value : Value
-  pub good : e ≡ Good value
+  pub good : e ≡ Ok value
   pub is : s ≡ Statement.AddressConstants copies length value
 
 -- a card that jumps wants a relocatable target
@@ -94,13 +92,13 @@ jump_wants (Operation.BranchOn q) e = clash (cc)
 jump_wants Operation.Jump e = refl
 jump_wants (Operation.JumpOn q) e = refl
 
-two_is : (op : Operation) (c : Code) (a b : Placed) (q : ℕ) (x y : Operand) → c ≡ Code.Byte q → a ≡ Placed.At x → b ≡ Placed.At y → two_of op c a b ≡ Statement.TwoAddresses op q x y
+two_is : (op : Operation) (c : Result (Option ℕ) Refusal) (a b : Result (Option Operand) Refusal) (q : ℕ) (x y : Operand) → c ≡ Ok (Some q) → a ≡ Ok (Some x) → b ≡ Ok (Some y) → two_of op c a b ≡ Statement.TwoAddresses op q x y
 two_is op c a b q x y d e f = rw (d, e, f)
 
-one-is : (op : Operation) (c : Code) (a : Placed) (q : ℕ) (x : Operand) → c ≡ Code.Byte q → a ≡ Placed.At x → one_of op c a ≡ Statement.OneAddress op q x
+one-is : (op : Operation) (c : Result (Option ℕ) Refusal) (a : Result (Option Operand) Refusal) (q : ℕ) (x : Operand) → c ≡ Ok (Some q) → a ≡ Ok (Some x) → one_of op c a ≡ Statement.OneAddress op q x
 one-is op c a q x d e = rw (d, e)
 
-jump-is : (u : Use) (c reach : Code) (q byte : ℕ) → u ≡ Use.Jumps → c ≡ Code.Byte q → reach ≡ Code.Byte byte → jump_of u c reach ≡ Statement.Jump q byte
+jump-is : (u : Use) (c reach : Result (Option ℕ) Refusal) (q byte : ℕ) → u ≡ Use.Jumps → c ≡ Ok (Some q) → reach ≡ Ok (Some byte) → jump_of u c reach ≡ Statement.Jump q byte
 jump-is u c reach q byte d e f = rw (d, e, f)
 
 module _ (op : Operation) (here : ℕ) (bases : Bases) where
@@ -116,7 +114,7 @@ module _ (op : Operation) (here : ℕ) (bases : Bases) where
       let y = operand-there bases b f r in
       record { q = c.byte; first = x; second = y; is = two_is op (code_of op (Operands.TwoAddresses a b)) (operand_of bases a) (operand_of bases b) _ _ _ c.is x.is y.is }
 
-  pub one-there : (a : EvaluatedAddress) (q : Evaluated) → statement_no op (Operands.AddressAndCode a q) here bases ≡ 0
+  pub one-there : (a : EvaluatedAddress) (q : Result Value Fault) → statement_no op (Operands.AddressAndCode a q) here bases ≡ 0
       → OneThere op a bases (statement_from op (Operands.AddressAndCode a q) here bases)
   unfolding statement_from expressions_no places_no
   one-there a q h =
@@ -134,7 +132,7 @@ module _ (op : Operation) (here : ℕ) (bases : Bases) where
       let x = operand-there bases a k.expressions k.places in
       record { q = c.byte; first = x; is = one-is op (code_of op (Operands.LoneAddress a)) (operand_of bases a) _ _ c.is x.is }
 
-  pub pair-there : (e q : Evaluated) → use_of op ≡ Use.Jumps → statement_no op (Operands.Pair e q) here bases ≡ 0
+  pub pair-there : (e q : Result Value Fault) → use_of op ≡ Use.Jumps → statement_no op (Operands.Pair e q) here bases ≡ 0
       → JumpThere (statement_from op (Operands.Pair e q) here bases)
   unfolding statement_from expressions_no places_no
   pair-there e q u h =
@@ -144,7 +142,7 @@ module _ (op : Operation) (here : ℕ) (bases : Bases) where
       let j = jump-there (next_of op here) e w (rw u at k.places) in
       record { q = c.byte; byte = j.byte; is = jump-is (use_of op) (code_of op (Operands.Pair e q)) (jump_to (next_of op here) e) _ _ u c.is j.is }
 
-  pub target-there : (e : Evaluated) → use_of op ≡ Use.Jumps → statement_no op (Operands.Lone e) here bases ≡ 0
+  pub target-there : (e : Result Value Fault) → use_of op ≡ Use.Jumps → statement_no op (Operands.Lone e) here bases ≡ 0
       → JumpThere (statement_from op (Operands.Lone e) here bases)
   unfolding statement_from expressions_no places_no
   target-there e u h =
@@ -154,7 +152,7 @@ module _ (op : Operation) (here : ℕ) (bases : Bases) where
       let j = jump-there (next_of op here) e w (rw u at k.places) in
       record { q = c.byte; byte = j.byte; is = jump-is (use_of op) (code_of op (Operands.Lone e)) (jump_to (next_of op here) e) _ _ u c.is j.is }
 
-  pub constants_there : (copies length : ℕ) (e : Evaluated) → statement_no op (Operands.AddressConstants copies length e) here bases ≡ 0
+  pub constants_there : (copies length : ℕ) (e : Result Value Fault) → statement_no op (Operands.AddressConstants copies length e) here bases ≡ 0
       → ConstantsThere copies length e (statement_from op (Operands.AddressConstants copies length e) here bases)
   unfolding statement_from expressions_no
   constants_there copies length e h =
@@ -163,34 +161,34 @@ module _ (op : Operation) (here : ℕ) (bases : Bases) where
       record { value = v.value; good = v.good; is = ap (λ x. constants_of copies length (value_in x)) v.good }
 
 -- the bytes of an operand are those that the form of its address says
-pub written-size : (look : ℕ → Meaning) (here : ℕ) (o : List ℕ) (i : Item) → item_size (item_of look here o i) ≡ address_size i
-written-size look here o Item.Absent = refl
-written-size look here o (Item.At p) = refl
+pub written-size : (look : ℕ → Option Meaning) (here : ℕ) (o : List ℕ) (i : Option ℕ) → item_size (item_of look here o i) ≡ address_size i
+written-size look here o None = refl
+written-size look here o (Some p) = refl
 
 -- THE VALUE OF AN ONLY EXPRESSION
 
-is-good : (e : Evaluated) (v : Value) → value_in e ≡ MaybeValue.Is v → e ≡ Good v
-is-good (Good w) v h = cc
-is-good Malformed v h = clash (cc)
-is-good Undefined v h = clash (cc)
-is-good WrongKind v h = clash (cc)
-is-good (OutOfRange k) v h = clash (cc)
+is-good : (e : Result Value Fault) (v : Value) → value_in e ≡ Some v → e ≡ Ok v
+is-good (Ok w) v h = cc
+is-good (Err Malformed) v h = clash (cc)
+is-good (Err Undefined) v h = clash (cc)
+is-good (Err WrongKind) v h = clash (cc)
+is-good (Err (OutOfRange k)) v h = clash (cc)
 
 -- it has 16 bits
-pub lone-fits : (look : ℕ → Meaning) (here : ℕ) (o : List ℕ) (x : Shape) (v : Value) → lone_value (operands_of look here o x) ≡ MaybeValue.Is v → amount_of v < 65536
+pub lone-fits : (look : ℕ → Option Meaning) (here : ℕ) (o : List ℕ) (x : Result Shape ℕ) (v : Value) → lone_value (operands_of look here o x) ≡ Some v → amount_of v < 65536
 unfolding operands_of
-lone-fits look here o (Shape.Fails q) v h = clash (cc)
-lone-fits look here o Shape.Nothing v h = clash (cc)
-lone-fits look here o (Shape.StartAt n) v h = clash (cc)
-lone-fits look here o Shape.Expression v h = value-fits look here (expression_at o 0) v (is-good (evaluated look here (expression_at o 0)) v h)
-lone-fits look here o (Shape.Pair p) v h = clash (cc)
-lone-fits look here o Shape.Target v h = value-fits look here (expression_at o 0) v (is-good (evaluated look here (expression_at o 0)) v h)
-lone-fits look here o (Shape.TwoAddresses a b) v h = clash (cc)
-lone-fits look here o (Shape.AddressAndCode a p) v h = clash (cc)
-lone-fits look here o (Shape.LoneAddress a) v h = clash (cc)
-lone-fits look here o (Shape.Data d) v h = go d.card d.kind h
+lone-fits look here o (Err q) v h = clash (cc)
+lone-fits look here o (Ok Shape.Nothing) v h = clash (cc)
+lone-fits look here o (Ok (Shape.StartAt n)) v h = clash (cc)
+lone-fits look here o (Ok Shape.Expression) v h = value-fits look here (expression_at o 0) v (is-good (evaluated look here (expression_at o 0)) v h)
+lone-fits look here o (Ok (Shape.Pair p)) v h = clash (cc)
+lone-fits look here o (Ok Shape.Target) v h = value-fits look here (expression_at o 0) v (is-good (evaluated look here (expression_at o 0)) v h)
+lone-fits look here o (Ok (Shape.TwoAddresses a b)) v h = clash (cc)
+lone-fits look here o (Ok (Shape.AddressAndCode a p)) v h = clash (cc)
+lone-fits look here o (Ok (Shape.LoneAddress a)) v h = clash (cc)
+lone-fits look here o (Ok (Shape.Data d)) v h = go d.card d.kind h
   where
-    go : (c : DataCard) (k : DataType) → lone_value (by_card c (by_type k (Operands.AddressConstants d.copies d.length (evaluated look here (expression_at o d.value))))) ≡ MaybeValue.Is v → amount_of v < 65536
+    go : (c : DataCard) (k : DataType) → lone_value (by_card c (by_type k (Operands.AddressConstants d.copies d.length (evaluated look here (expression_at o d.value))))) ≡ Some v → amount_of v < 65536
     go DataCard.Reserve k h = clash (cc)
     go DataCard.Constant DataType.Characters h = clash (cc)
     go DataCard.Constant DataType.Hexadecimal h = clash (cc)

@@ -1,3 +1,2 @@
--- The laws of statements that other crates cite, and the cases of their matches.
+-- The laws of statements that other crates cite.
 pub mod Laws
-mod Cases

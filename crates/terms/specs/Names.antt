@@ -1,11 +1,9 @@
 -- R3.1: a name at a position, and the number that stands for it.
-use Rattle.std.specs.Prelude.{ℕ, ◌+◌, List, [], ◌∷◌, Bool, get_or, ltb}
+use Rattle.std.specs.Prelude.{ℕ, ◌+◌, List, [], ◌∷◌, Bool, get_or, ltb, Result, Ok, Err}
 use Rattle.values.specs.Tests.{pick}
 use Rattle.values.specs.Words.{base256}
 use Rattle.letters.specs.Text.{run_end}
 use Rattle.letters.specs.Letters.{class_of, starts_name, goes_on_name, code_of, blank_code}
-use Rattle.terms.specs.declared.naming.NameRead.{NameRead}
-use Rattle.terms.specs.declared.naming.NameRead.TheVariants.{Named, NoName}
 
 -- R3.1: a name may start at a position
 abbrev pub starts_at : List ℕ → ℕ → Bool
@@ -32,8 +30,8 @@ unfoldable pub name_number : List ℕ → ℕ → ℕ → ℕ
 name_number s at end = base256 (name_codes s at end)
 
 -- R3.1: 1 to 6 characters: the number of the name at a position and the position behind it, or the first position at which no name could go on
-abbrev pub name_up_to : List ℕ → ℕ → ℕ → NameRead
-name_up_to s at end = pick (goes_on_at s end) (NoName end) (Named (name_number s at end) end)
+abbrev pub name_up_to : List ℕ → ℕ → ℕ → Result (ℕ × ℕ) ℕ
+name_up_to s at end = pick (goes_on_at s end) (Err end) (Ok (name_number s at end, end))
 
-unfoldable pub name_at : List ℕ → ℕ → NameRead
-name_at s at = pick (starts_at s at) (name_up_to s at (name_end 6 s at)) (NoName at)
+unfoldable pub name_at : List ℕ → ℕ → Result (ℕ × ℕ) ℕ
+name_at s at = pick (starts_at s at) (name_up_to s at (name_end 6 s at)) (Err at)

@@ -2,7 +2,7 @@
 use Rattle.std.specs.Prelude.{◌+◌, ◌≤◌, ◌∷◌, ◌≡◌, ◌⊎◌, ◌↔◌}
 use Rattle.std.proofs.Common.{◌∙◌}
 use Rattle.theorems.specs.Logic.{ℕ, zero, suc, List, [], Bool, true, false, refl, sym, ap, inl, inr, arith, length, get_or, eqb, eqb-true, eqb-false, add-zero}
-use Rattle.theorems.specs.Types.{Phase, Line, Reading, Book, clean, bad, State, through, stopped, Result, made, refused}
+use Rattle.theorems.specs.Types.{Phase, Line, Reading, Book, clean, bad, State, through, stopped, Translated, made, refused}
 use Rattle.names.specs.Names.{find}
 use Rattle.passes.specs.One.{reading_no, fresh, one_no, step_one, ended_as, pass_one}
 use Rattle.passes.specs.Two.{outset, two_no, step_two, check_two, book_from}
@@ -14,10 +14,9 @@ use Rattle.values.proofs.Laws.{clash}
 use Rattle.names.specs.Table.{zeroed}
 use Rattle.book.specs.Writing.{book_bytes}
 use Rattle.cards.specs.Source.{source_no, cards_of}
-use Rattle.passes.specs.declared.Assembled.TheVariants.{Made}
 use Rattle.passes.proofs.Assembly.{fits, through_call}
 use Rattle.theorems.specs.Grow.{behind, behind_two, names_by, look_in}
-use Rattle.theorems.specs.Accepted.{one_at, two_at, end_one, NoneRefused, FirstRefused}
+use Rattle.theorems.specs.Accepted.{made_answer, one_at, two_at, end_one, NoneRefused, FirstRefused}
 use Rattle.theorems.proofs.Outcomes.{made-way}
 
 -- a pass that ends where it stands
@@ -92,7 +91,7 @@ pass-each (s ∷ ss) k st a h =
 -- BOTH PASSES
 
 module _ (ss : List (List ℕ)) where
-  pub data Fate : Result → Type 0 where
+  pub data Fate : Translated → Type 0 where
     by_one : (number card : ℕ) → FirstRefused 1 (one_at fresh ss) (length ss) number card → Fate (refused number card)
     no_end : NoneRefused (one_at fresh ss) (length ss) → ((end_one ss).phase ≡ Phase.Ended → ⊥) → Fate (refused 9 0)
     by_two : NoneRefused (one_at fresh ss) (length ss) → (end_one ss).phase ≡ Phase.Ended → (number card : ℕ) → FirstRefused 1 (two_at (look_in ss) outset ss) (length ss) number card
@@ -146,7 +145,7 @@ cards-accepted ss n b = (λ h. there (rw h at (fate ss)), λ x. back x (fate ss)
     there : {n : ℕ} {b : Book} → Fate ss (made n b) → Goal n b
     there (both each end each' e no-bad) = (each, end, each', refl, refl)
 
-    back : {r : Result} → Goal n b → Fate ss r → r ≡ made n b
+    back : {r : Translated} → Goal n b → Fate ss r → r ≡ made n b
     back (each, end, each', count, book) (by_one number card x) = absurd (not-both x each)
     back (each, end, each', count, book) (no_end _ no_end') = absurd (no_end' end)
     back (each, end, each', count, book) (by_two _ _ number card x) = absurd (not-both x each')
@@ -172,7 +171,7 @@ cards-refused number card ss h = go (rw h at (fate ss))
 
 -- accepted if and only if the source is whole cards and not too many, the work area is large enough, its cards make a book, and the output has room for it
 pub call_accepted : (width : ℕ) (source work out : List ℕ) (bytes names : ℕ)
-    → (assembling width source work out).answer ≡ Made bytes names
+    → (assembling width source work out).answer ≡ made_answer bytes names
     ↔ ((b : Book) × (source_no width (length source) ≡ 0) × (work_size ≤ length work) × (assembled (cards_of width source) ≡ made names b)
     × (bytes ≡ length (book_bytes b)) × (bytes ≤ length out))
 call_accepted width source work out bytes names = (there, back)
@@ -182,14 +181,14 @@ call_accepted width source work out bytes names = (there, back)
         (b : Book) × (source_no width (length source) ≡ 0) × (work_size ≤ length work) × (assembled (cards_of width source) ≡ made names b)
         × (bytes ≡ length (book_bytes b)) × (bytes ≤ length out)
 
-    there : (assembling width source work out).answer ≡ Made bytes names → Goal
+    there : (assembling width source work out).answer ≡ made_answer bytes names → Goal
     there h =
         let x = made-way width source work out bytes names h in
         let size = x.size in
         (x.book, x.source_fine, x.space, x.cards, size, omega arith)
 
-    back : Goal → (assembling width source work out).answer ≡ Made bytes names
+    back : Goal → (assembling width source work out).answer ≡ made_answer bytes names
     back (b, e, w, f, size, room) =
         ap (λ (x : Outcome). x.answer) (through_call width source work out e w ∙ ap (λ x. outcome_of x (zeroed work_size work) out) f
         ∙ fits names (book_bytes b) (zeroed work_size work) out (omega arith))
-        ∙ ap (λ x. Made x names) (sym size)
+        ∙ ap (λ x. made_answer x names) (sym size)

@@ -3,14 +3,14 @@
 -- and the second with 0 gives the same answer and the same storage, a refusal included, overlaid fields included.
 use Rattle.std.specs.Prelude.{◌+◌, ◌∷◌, ◌≡◌}
 use Rattle.std.proofs.Common.{◌∙◌}
-use Rattle.theorems.specs.Logic.{ℕ, List, [], map, refl, sym, ap, some, arith, take}
+use Rattle.theorems.specs.Logic.{ℕ, List, [], map, refl, sym, ap, Some, arith, take}
 use Rattle.theorems.specs.Types.{Displacement, Record, Book}
 use Rattle.book.specs.Book.{book_of}
 use Rattle.cards.specs.Source.{cards_of}
 use Rattle.fields.proofs.Laws.{moved_length}
 use Rattle.load.specs.Load.{judged, of_book, loading}
-use Rattle.passes.specs.declared.Assembled.TheVariants.{Made}
 use Rattle.passes.specs.Assembly.{assembling}
+use Rattle.theorems.specs.Accepted.{made_answer}
 use Rattle.theorems.specs.Sums.{total, record_length}
 use Rattle.theorems.specs.Moved.{moved_record, SameButStart}
 use Rattle.theorems.proofs.Readable.{call_readable}
@@ -30,13 +30,13 @@ moved-size d (r ∷ rs) =
     omega arith
 
 -- loading bytes that read as a book
-read-judged : (s : List ℕ) (b : Book) → book_of s ≡ some b → (d : Displacement) (m : List ℕ) → loading s d m ≡ judged b.entry d b.records m
+read-judged : (s : List ℕ) (b : Book) → book_of s ≡ Some b → (d : Displacement) (m : List ℕ) → loading s d m ≡ judged b.entry d b.records m
 unfolding loading
 read-judged s b e d m = ap (λ x. of_book x d m) e
 
 pub demand_3 : (d : ℕ)
-    (width : ℕ) (source work out : List ℕ) (bytes names : ℕ) → (assembling width source work out).answer ≡ Made bytes names
-    → (width' : ℕ) (source' work' out' : List ℕ) (bytes' names' : ℕ) → (assembling width' source' work' out').answer ≡ Made bytes' names'
+    (width : ℕ) (source work out : List ℕ) (bytes names : ℕ) → (assembling width source work out).answer ≡ made_answer bytes names
+    → (width' : ℕ) (source' work' out' : List ℕ) (bytes' names' : ℕ) → (assembling width' source' work' out').answer ≡ made_answer bytes' names'
     → SameButStart d (cards_of width source) (cards_of width' source')
     → (bytes' ≡ bytes) × (names' ≡ names)
     × ((storage : List ℕ)

@@ -1,8 +1,8 @@
 -- THE ENTRY (R21.3, R12.1, R12.2). END is the last card of an accepted source, and the book's entry is its operand, or none.
 use Rattle.std.specs.Prelude.{◌<◌, ◌∷◌, ◌⊎◌, ◌≡◌}
 use Rattle.std.proofs.Common.{◌∙◌}
-use Rattle.theorems.specs.Logic.{ℕ, zero, suc, List, [], inl, inr, refl, sym, ap, arith, length, get_or}
-use Rattle.theorems.specs.Types.{MaybeValue, Meaning, Entry, Line, Reading, Role, Phase, Course, Book, State, through, made}
+use Rattle.theorems.specs.Logic.{ℕ, zero, suc, List, [], inl, inr, refl, sym, ap, arith, length, get_or, Option}
+use Rattle.theorems.specs.Types.{Meaning, Line, Reading, Role, Phase, Course, Book, State, through, made, Value, Relocatable}
 use Rattle.values.proofs.Laws.{clash}
 use Rattle.lines.specs.Lines.{reading_of}
 use Rattle.passes.specs.Cards.{value_at}
@@ -22,12 +22,15 @@ IsEnd s = (l : Line) × (reading_of s ≡ Reading.Statement l) × (role_of l.ope
 
 -- a card is END, or leaves the entry to the others and ends nothing
 abbrev Leaves : List ℕ → Reading → Type 0
-Leaves s x = ((look : ℕ → Meaning) (c : Course) (rest : Entry) → reading_entry look c s x rest ≡ rest) × ((st : State) → (reading_step st s x).phase ≡ Phase.Ended → st.phase ≡ Phase.Ended)
+Leaves s x =
+    ((look : ℕ → Option Meaning) (c : Course) (rest : Option Relocatable) → reading_entry look c s x rest ≡ rest)
+    × ((st : State) → (reading_step st s x).phase ≡ Phase.Ended → st.phase ≡ Phase.Ended)
 
 end_or : (s : List ℕ) → IsEnd s ⊎ Leaves s (reading_of s)
 end_or s = go (reading_of s) refl
   where
-    other : (l : Line) (r : Role) → role_of l.operation ≡ r → ((v : MaybeValue) (rest : Entry) → role_entry r v rest ≡ rest) → ((p : Phase) → phase_after r p ≡ Phase.Ended → p ≡ Phase.Ended)
+    other : (l : Line) (r : Role) → role_of l.operation ≡ r → ((v : Option Value) (rest : Option Relocatable) → role_entry r v rest ≡ rest)
+        → ((p : Phase) → phase_after r p ≡ Phase.Ended → p ≡ Phase.Ended)
         → IsEnd s ⊎ Leaves s (Reading.Statement l)
     other l r e entry phase = inr (rw e (λ look c rest. entry (value_at look c.counter s l) rest, λ st. phase st.phase))
 
@@ -56,7 +59,7 @@ behind-next n st [] h = absurd (omega arith)
 behind-next zero st (s ∷ ss) h = refl
 behind-next (suc n) st (s ∷ ss) h = behind-next n (step_one st s) ss (omega arith)
 
-entry_at : (look : ℕ → Meaning) (n : ℕ) (ss : List (List ℕ)) (c : Course) → n < length ss → ((i : ℕ) → i < n → IsEnd (get_or ss i []) → ⊥)
+entry_at : (look : ℕ → Option Meaning) (n : ℕ) (ss : List (List ℕ)) (c : Course) → n < length ss → ((i : ℕ) → i < n → IsEnd (get_or ss i []) → ⊥)
     → (l : Line) → reading_of (get_or ss n []) ≡ Reading.Statement l → role_of l.operation ≡ Role.Ends
     → entry_from look c ss ≡ entry_by (value_at look (behind_two look n c ss).counter (get_or ss n []) l)
 unfolding behind entry_from

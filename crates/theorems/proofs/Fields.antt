@@ -2,7 +2,7 @@
 -- that are relocatable, each once; every other byte of its text stays what it is.
 use Rattle.std.specs.Prelude.{◌+◌, ◌≤◌, ◌<◌, ◌∷◌, ◌++◌, ◌≡◌, ◌⊎◌, ◌↔◌}
 use Rattle.std.proofs.Common.{◌∙◌}
-use Rattle.theorems.specs.Logic.{ℕ, zero, suc, List, [], map, List-as-Memᴰ, List·Memᴰ·cases-cons, List·Memᴰ·not-nil, Memᴰ·cast, List·Memᴰ·head, List·Memᴰ·tail, true, false, refl, sym, ap, subst, inl, inr, add-zero, arith, length, get_or, leb, sets, length-sets, leb-true}
+use Rattle.theorems.specs.Logic.{ℕ, zero, suc, List, [], map, List-as-Memᴰ, List·Memᴰ·cases-cons, List·Memᴰ·not-nil, Memᴰ·cast, List·Memᴰ·head, List·Memᴰ·tail, true, false, refl, sym, ap, subst, inl, inr, add-zero, arith, length, get_or, leb, sets, length-sets, leb-true, Option}
 use Rattle.theorems.specs.Types.{Value, Relocatable as Place, Meaning, Displacement, Course, Record, Book, Piece, plain, value, made}
 use Rattle.values.proofs.Laws.{both_true}
 use Rattle.values.specs.Words.{word, two_bytes}
@@ -187,7 +187,7 @@ field_moved d r fit u o m = moved_field_lem d r.text r.fields r.text 0 (length r
 
 -- THE RECORDS OF THE CARDS
 
-module _ (look : ℕ → Meaning) (r : Record) where
+module _ (look : ℕ → Option Meaning) (r : Record) where
   with_record_lem : (k address : ℕ) (ps : List Piece) (rest : List Record)
       → List-as-Memᴰ r (with_record k address ps rest) ↔ (((1 ≤ length (text_of ps)) × (r ≡ record_of_pieces k address ps)) ⊎ List-as-Memᴰ r rest)
   unfolding text_of

@@ -2,17 +2,17 @@
 -- it refuses no EQU and no ORG, and its counter before every card is pass one's.
 use Rattle.std.specs.Prelude.{◌+◌, ◌≤◌, ◌<◌, ◌∷◌, ◌≡◌, ◌⊎◌}
 use Rattle.std.proofs.Common.{◌∙◌}
-use Rattle.theorems.specs.Logic.{ℕ, zero, suc, List, [], map, Bool, true, false, refl, sym, ap, subst, arith, eqb, eqb-true, inl, inr, length, get_or}
-use Rattle.theorems.specs.Types.{Value, Term, Name, Meaning, Factor, Line, Reading, MaybeValue, Shape, Operands, Bases, Role, Course, Evaluated, Pattern, Addend, Read, State, through}
+use Rattle.theorems.specs.Logic.{ℕ, zero, suc, List, [], map, Bool, true, false, refl, sym, ap, subst, arith, eqb, eqb-true, inl, inr, length, get_or, Option, None, Some, Result, Ok, Err}
+use Rattle.theorems.specs.Types.{Value, Term, Name, Meaning, Factor, Line, Reading, Shape, Operands, Bases, Role, Course, Pattern, Addend, Read, State, through, Fault}
 use Rattle.values.specs.Tests.{pick, or_else}
-use Rattle.names.specs.Names.{find, defined, name_refusal}
+use Rattle.names.specs.Names.{meaning, find, defined, name_refusal}
 use Rattle.names.proofs.Names.{find-defined, refusal_none}
 use Rattle.expressions.specs.Form.{Placed, expression_at}
-use Rattle.expressions.specs.Form.Read.{up_to, fails}
-use Rattle.expressions.specs.Value.{meaning_factor, factor_of, placed_factor, addend_factors, any_undefined, undefined_in, any_unknown, sum_of, by_kind, value_of, evaluated, value_in}
+use Rattle.expressions.specs.Form.Read.{up_to}
+use Rattle.expressions.specs.Value.{meaning_factor, factor_at, placed_factor, addend_factors, any_undefined, undefined_in, any_unknown, sum_of, by_kind, value_of, evaluated, value_in}
 use Rattle.lines.specs.Lines.{reading_of, operand_columns, shape_no}
 use Rattle.passes.specs.Cards.{name_value, name_length, operands_at, counter_by, counter_after, value_at, name_value_by}
-use Rattle.passes.specs.One.{defined_as, most_names, if_named, reading_no, one_no, names_after, reading_step, step_one, pass_one, fresh, early_by, early_no}
+use Rattle.passes.specs.One.{defined_as, most_names, if_named, with_name, reading_no, one_no, names_after, reading_step, step_one, pass_one, fresh, early_by, early_no}
 use Rattle.passes.proofs.Turns.{pass_turn}
 use Rattle.passes.proofs.Fine.{fine, one-zero, Fine}
 use Rattle.expressions.proofs.Laws.{accepted, Accepted}
@@ -28,28 +28,29 @@ use Rattle.theorems.specs.Grow.{Keeps, behind, behind_one, behind_two, names_by,
 use Rattle.theorems.proofs.Raising.{either-false}
 use Rattle.theorems.proofs.Accepted.{let_through, pass-ended, pass-each}
 use Rattle.theorems.proofs.Lines.{Has, line_has, early_role, Early, row_of}
+use Rattle.expressions.specs.declared.Fault.TheVariants.{Undefined, WrongKind}
 
 -- EXPRESSIONS
 
 -- a sum that has a value has no name that is not defined
-none-unknown : (ys : List (Addend Factor)) (v : Value) → value_of (sum_of ys) ≡ Evaluated.Good v → any_unknown ys ≡ false
+none-unknown : (ys : List (Addend Factor)) (v : Value) → value_of (sum_of ys) ≡ Ok v → any_unknown ys ≡ false
 unfolding value_of
 none-unknown ys v h = go (any_unknown ys) h
   where
-    go : (b : Bool) → pick b Evaluated.Undefined (pick (sum_of ys).mixed Evaluated.WrongKind (by_kind (sum_of ys))) ≡ Evaluated.Good v → b ≡ false
+    go : (b : Bool) → pick b (Err Undefined) (pick (sum_of ys).mixed (Err WrongKind) (by_kind (sum_of ys))) ≡ Ok v → b ≡ false
     go true h = cc
     go false h = refl
 
-module _ (look more : ℕ → Meaning) (keeps : Keeps look more) (here : ℕ) where
-  factor_kept : (t : Term) → (factor_of look here t).undefined ≡ false → factor_of more here t ≡ factor_of look here t
-  factor_kept (Term.Number v q) e = refl
-  factor_kept (Term.Symbol k q) e = go (look k) refl e
+module _ (look more : ℕ → Option Meaning) (keeps : Keeps look more) (here : ℕ) where
+  factor_kept : (t : Result (Term × ℕ) ℕ) → (factor_at look here t).undefined ≡ false → factor_at more here t ≡ factor_at look here t
+  factor_kept (Ok (Term.Number v, q)) e = refl
+  factor_kept (Ok (Term.Symbol k, q)) e = go (look k) refl e
     where
-      go : (x : Meaning) → look k ≡ x → (meaning_factor x).undefined ≡ false → meaning_factor (more k) ≡ meaning_factor x
-      go (Meaning.Known v l) h e = ap meaning_factor (keeps k v l h)
-      go Meaning.Unknown h e = cc
-  factor_kept (Term.Here q) e = refl
-  factor_kept (Term.Bad q) e = refl
+      go : (x : Option Meaning) → look k ≡ x → (meaning_factor x).undefined ≡ false → meaning_factor (more k) ≡ meaning_factor x
+      go (Some m) h e = ap meaning_factor (keeps k m.value m.length h)
+      go None h e = cc
+  factor_kept (Ok (Term.Here, q)) e = refl
+  factor_kept (Err q) e = refl
 
   factors_kept : (xs : List Placed) → any_undefined (map (placed_factor look here) xs) ≡ false → map (placed_factor more here) xs ≡ map (placed_factor look here) xs
   unfolding any_undefined
@@ -72,7 +73,7 @@ module _ (look more : ℕ → Meaning) (keeps : Keeps look more) (here : ℕ) wh
       rw (addend_kept x a, addends_kept xs b)
 
   -- R7.7: a value that was told over earlier names is the value over all names
-  pub value-kept : (e : Read (List (Addend Placed))) (v : Value) → evaluated look here e ≡ Evaluated.Good v → evaluated more here e ≡ Evaluated.Good v
+  pub value-kept : (e : Read (List (Addend Placed))) (v : Value) → evaluated look here e ≡ Ok v → evaluated more here e ≡ Ok v
   unfolding evaluated
   value-kept (up_to xs q) v h = ap (λ ys. value_of (sum_of ys)) (addends_kept xs (none-unknown (map (addend_factors look here) xs) v h)) ∙ h
   value-kept (Read.fails q) v h = cc
@@ -80,27 +81,27 @@ module _ (look more : ℕ → Meaning) (keeps : Keeps look more) (here : ℕ) wh
 -- NAMES
 
 -- a name that is new (refusal 16) leaves the others as they were
-defined_keeps : (x : Name) (ns : List Name) → find ns x.number ≡ Meaning.Unknown → Keeps (find ns) (find (defined x ns))
+defined_keeps : (x : Name) (ns : List Name) → find ns x.number ≡ None → Keeps (find ns) (find (defined x ns))
 defined_keeps x ns new k v l h = find-defined x ns k ∙ go (eqb x.number k) refl
   where
-    go : (b : Bool) → eqb x.number k ≡ b → pick b (Meaning.Known x.value x.length) (find ns k) ≡ Meaning.Known v l
+    go : (b : Bool) → eqb x.number k ≡ b → pick b (Some (meaning x.value x.length)) (find ns k) ≡ Some (meaning v l)
     go true e =
         let same = eqb-true x.number k e in
-        let none : find ns k ≡ Meaning.Unknown = ap (find ns) (sym same) ∙ new in
+        let none : find ns k ≡ None = ap (find ns) (sym same) ∙ new in
         let z : ◌≡◌ {A = ℕ} 0 1 = cc in
         absurd (omega arith)
     go false e = h
 
-names-keep : (st : State) (s : List ℕ) (l : Line) → if_named l.name (name_refusal most_names st.names l.name) ≡ 0 → Keeps (find st.names) (find (names_after st s l))
+names-keep : (st : State) (s : List ℕ) (l : Line) → if_named l.name (name_refusal most_names st.names) ≡ 0 → Keeps (find st.names) (find (names_after st s l))
 unfolding names_after
-names-keep st s l new = go (eqb l.name 0) new (name_value (find st.names) st.counter s l)
+names-keep st s l new = go l.name new (name_value (find st.names) st.counter s l)
   where
-    go : (b : Bool) → pick b 0 (name_refusal most_names st.names l.name) ≡ 0 → (v : MaybeValue)
-        → Keeps (find st.names) (find (pick b st.names (defined_as l.name v (name_length l.operation l.shape) st.names)))
-    go true e v = λ k v n h. h
-    go false e (MaybeValue.Is v) =
-        defined_keeps (record { number = l.name; value = v; length = name_length l.operation l.shape }) st.names (refusal_none most_names st.names l.name e).0
-    go false e MaybeValue.Nothing = λ k v n h. h
+    go : (name : Option ℕ) → if_named name (name_refusal most_names st.names) ≡ 0 → (v : Option Value)
+        → Keeps (find st.names) (find (with_name name (λ k. defined_as k v (name_length l.operation l.shape) st.names) st.names))
+    go None e v = λ k v n h. h
+    go (Some name) e (Some v) =
+        defined_keeps (record { number = name; value = v; length = name_length l.operation l.shape }) st.names (refusal_none most_names st.names name e).0
+    go (Some name) e None = λ k v n h. h
 
 step_keeps : (st : State) (s : List ℕ) → one_no st s ≡ 0 → Keeps (find st.names) (find (step_one st s).names)
 unfolding step_one
@@ -119,7 +120,7 @@ module _ (st : State) (s : List ℕ) (l : Line) (reads : reading_of s ≡ Readin
   abbrev operands : Operands
   operands = operands_at (find st.names) st.counter s l
 
-  abbrev first : Evaluated
+  abbrev first : Result Value Fault
   first = evaluated (find st.names) st.counter (expression_at (operand_columns s l) 0)
 
   -- EQU and ORG: an expression alone, which is not refused
@@ -127,10 +128,10 @@ module _ (st : State) (s : List ℕ) (l : Line) (reads : reading_of s ≡ Readin
     row : Early true (traits_of l.operation)
     row = subst (λ b. Early b (traits_of l.operation)) e (row_of l.operation).early
 
-    is-expression : l.shape ≡ Shape.Expression
+    is-expression : l.shape ≡ Ok Shape.Expression
     is-expression = go (rw row.0 at (line_has s l reads)) f.formed
       where
-        go : {x : Shape} → Has Pattern.Expression x → shape_no x ≡ 0 → x ≡ Shape.Expression
+        go : {x : Result Shape ℕ} → Has Pattern.Expression x → shape_no x ≡ 0 → x ≡ Ok Shape.Expression
         go Has.fails h = absurd (omega arith)
         go Has.lone h = refl
 
@@ -150,11 +151,11 @@ module _ (st : State) (s : List ℕ) (l : Line) (reads : reading_of s ≡ Readin
     first_fine = accepted (first_wanted l.operation) first (rw is-expression at expression-fine)
 
   -- a name has a value
-  pub line-value : (v : Value) × (name_value (find st.names) st.counter s l ≡ MaybeValue.Is v)
+  pub line-value : (v : Value) × (name_value (find st.names) st.counter s l ≡ Some v)
   unfolding name_value operands_of
   line-value = go (role_of l.operation) refl
     where
-      go : (r : Role) → role_of l.operation ≡ r → (v : Value) × (name_value_by r (value_at (find st.names) st.counter s l) st.counter l ≡ MaybeValue.Is v)
+      go : (r : Role) → role_of l.operation ≡ r → (v : Value) × (name_value_by r (value_at (find st.names) st.counter s l) st.counter l ≡ Some v)
       go Role.Starts e = (_, refl)
       go Role.Equates e =
           let x = first_fine (ap early_role e) in
@@ -164,7 +165,7 @@ module _ (st : State) (s : List ℕ) (l : Line) (reads : reading_of s ≡ Readin
       go Role.Advances e = (_, refl)
 
   -- over all names
-  module _ (more : ℕ → Meaning) (keeps : Keeps (find st.names) more) where
+  module _ (more : ℕ → Option Meaning) (keeps : Keeps (find st.names) more) where
     same_operands : early_role (role_of l.operation) ≡ true → operands_at more st.counter s l ≡ operands
     unfolding operands_of
     same_operands e =
@@ -189,7 +190,7 @@ module _ (st : State) (s : List ℕ) (l : Line) (reads : reading_of s ≡ Readin
 
 -- A CARD
 
-module _ (st : State) (more : ℕ → Meaning) (keeps : Keeps (find st.names) more) (s : List ℕ) (e : one_no st s ≡ 0) (c : Course) (same : c.counter ≡ st.counter) where
+module _ (st : State) (more : ℕ → Option Meaning) (keeps : Keeps (find st.names) more) (s : List ℕ) (e : one_no st s ≡ 0) (c : Course) (same : c.counter ≡ st.counter) where
   pub card-counter : (step_two more c s).counter ≡ (step_one st s).counter
   unfolding step_two step_one
   card-counter =
@@ -238,8 +239,8 @@ module _ (ss : List (List ℕ)) (a : State) (h : pass_one 1 fresh ss ≡ through
       (behind-both a n ss 1 fresh outset h refl (omega arith)).0
 
   -- R7.7: an expression that had a value in pass one has the same value in pass two
-  pub same-value-again : (n : ℕ) (e : Read (List (Addend Placed))) (v : Value) → evaluated (find (behind_one n fresh ss).names) (counter_one ss n) e ≡ Evaluated.Good v
-      → evaluated (look_in ss) (counter_two ss n) e ≡ Evaluated.Good v
+  pub same-value-again : (n : ℕ) (e : Read (List (Addend Placed))) (v : Value) → evaluated (find (behind_one n fresh ss).names) (counter_one ss n) e ≡ Ok v
+      → evaluated (look_in ss) (counter_two ss n) e ≡ Ok v
   same-value-again n e v good =
       ap (λ here. evaluated (look_in ss) here e) (same_counters n)
       ∙ value-kept (find (behind_one n fresh ss).names) (look_in ss) (names-only_grow n) (counter_one ss n) e v good

@@ -2,8 +2,8 @@
 -- R17.7, R17.8: 51 and 52 with the card of the first record that fails, 52 with 0 for the entry.
 use Rattle.std.specs.Prelude.{◌∷◌, ◌≡◌, ◌⊎◌, ◌↔◌}
 use Rattle.std.proofs.Common.{◌∙◌}
-use Rattle.theorems.specs.Logic.{ℕ, List, [], List-as-Memᴰ, List·Memᴰ·cases-cons, List·Memᴰ·not-nil, List·Memᴰ·head, List·Memᴰ·tail, Bool, true, false, none, some, refl, sym, ap, inl, inr, arith}
-use Rattle.theorems.specs.Types.{Displacement, Entry, Loaded, Record, Book}
+use Rattle.theorems.specs.Logic.{ℕ, List, [], List-as-Memᴰ, List·Memᴰ·cases-cons, List·Memᴰ·not-nil, List·Memᴰ·head, List·Memᴰ·tail, Bool, true, false, refl, sym, ap, inl, inr, arith, Option, None, Some, Result, Err}
+use Rattle.theorems.specs.Types.{Displacement, Stored, LoadError, Record, Book, Relocatable}
 use Rattle.book.specs.Book.{book_of}
 use Rattle.book.specs.Writing.{fair_all}
 use Rattle.fields.specs.Fields.{over_field}
@@ -13,7 +13,7 @@ use Rattle.theorems.specs.Moved.{moved_entry}
 use Rattle.book.proofs.Written.{fair-first, read-fair}
 use Rattle.theorems.proofs.Outcomes.{Load, load, first_outside, first_over}
 use Rattle.theorems.proofs.Outcomes.Why.{is_broken, is_outside, is_over, is_entry_over}
-use Rattle.theorems.specs.Judged.{NoneFails, FirstFails, entry_over}
+use Rattle.theorems.specs.Judged.{stored_answer, NoneFails, FirstFails, entry_over}
 
 -- THE FIRST RECORD THAT FAILS A TEST
 
@@ -72,57 +72,56 @@ module _ (s : List ℕ) (d : Displacement) (m : List ℕ) where
   fails52 = over_field d
 
   -- 0 is the card of no record of a book that was read
-  none_in : (fails : Record → Bool) (b : Book) → book_of s ≡ some b → first_card fails b.records ≡ 0 → NoneFails fails b.records
+  none_in : (fails : Record → Bool) (b : Book) → book_of s ≡ Some b → first_card fails b.records ≡ 0 → NoneFails fails b.records
   none_in fails b f e = none-failing fails b.records 0 (read-fair s b f) e
 
   -- 50 where the bytes are no book
-  pub refused_50 : loaded.answer ≡ Loaded.Broken ↔ (book_of s ≡ none)
+  pub refused_50 : loaded.answer ≡ Err LoadError.Broken ↔ (book_of s ≡ None)
   unfolding loading
   refused_50 = (λ h. there (rw h at (load s d m)), λ h. ap (λ x. (of_book x d m).answer) h)
     where
-      there : {x : List ℕ} → Load s d m Loaded.Broken x → book_of s ≡ none
+      there : {x : List ℕ} → Load s d m (Err LoadError.Broken) x → book_of s ≡ None
       there (Load.is_refused (is_broken f)) = f
 
   -- 51 with the card of the first record whose text is outside storage
-  pub refused_51 : (card : ℕ) → loaded.answer ≡ Loaded.Outside card → (b : Book) × (book_of s ≡ some b) × (FirstFails fails51 b.records card)
+  pub refused_51 : (card : ℕ) → loaded.answer ≡ Err (LoadError.Outside card) → (b : Book) × (book_of s ≡ Some b) × (FirstFails fails51 b.records card)
   refused_51 card h = go (rw h at (load s d m))
     where
-      go : {card : ℕ} {x : List ℕ} → Load s d m (Loaded.Outside card) x → (b : Book) × (book_of s ≡ some b) × (FirstFails fails51 b.records card)
+      go : {card : ℕ} {x : List ℕ} → Load s d m (Err (LoadError.Outside card)) x → (b : Book) × (book_of s ≡ Some b) × (FirstFails fails51 b.records card)
       go (Load.is_refused (is_outside b f n)) = (b, f, first-failing fails51 b.records n)
 
   -- 52, where no record is outside, with the card of the first record that has a field over 65535, or 0 for the entry alone
-  pub refused_52 : (card : ℕ) → loaded.answer ≡ Loaded.Over card
-      → (b : Book) × (book_of s ≡ some b) × (NoneFails fails51 b.records)
+  pub refused_52 : (card : ℕ) → loaded.answer ≡ Err (LoadError.Over card)
+      → (b : Book) × (book_of s ≡ Some b) × (NoneFails fails51 b.records)
       × (FirstFails fails52 b.records card ⊎ ((card ≡ 0) × (NoneFails fails52 b.records) × (entry_over d.0 b.entry ≡ true)))
   refused_52 card h = go (rw h at (load s d m))
     where
-      go : {card : ℕ} {x : List ℕ} → Load s d m (Loaded.Over card) x
-          → (b : Book) × (book_of s ≡ some b) × (NoneFails fails51 b.records)
+      go : {card : ℕ} {x : List ℕ} → Load s d m (Err (LoadError.Over card)) x
+          → (b : Book) × (book_of s ≡ Some b) × (NoneFails fails51 b.records)
           × (FirstFails fails52 b.records card ⊎ ((card ≡ 0) × (NoneFails fails52 b.records) × (entry_over d.0 b.entry ≡ true)))
       go (Load.is_refused (is_over b f i n)) = (b, f, none_in fails51 b f i, inl (first-failing fails52 b.records n))
       go (Load.is_refused (is_entry_over b f i u o)) = (b, f, none_in fails51 b f i, inr (refl, none_in fails52 b f u, o))
 
   -- accepted if and only if the bytes are a book, no record is outside storage, and neither a field nor the entry is over 65535;
   -- then the answer is the bytes of its records and the entry plus the displacement
-  pub load-accepted : (bytes : ℕ) (at : Entry)
-      → loaded.answer ≡ Loaded.Stored bytes at
-      ↔ ((b : Book) × (book_of s ≡ some b) × (NoneFails fails51 b.records) × (NoneFails fails52 b.records) × (entry_over d.0 b.entry ≡ false)
+  pub load-accepted : (bytes : ℕ) (at : Option Relocatable)
+      → loaded.answer ≡ stored_answer bytes at
+      ↔ ((b : Book) × (book_of s ≡ Some b) × (NoneFails fails51 b.records) × (NoneFails fails52 b.records) × (entry_over d.0 b.entry ≡ false)
       × (bytes ≡ bytes_stored b.records) × (at ≡ moved_entry d b.entry))
   load-accepted bytes at = (λ h. there (rw h at (load s d m)), back)
     where
-      Whole : ℕ → Entry → Type 0
+      Whole : ℕ → Option Relocatable → Type 0
       Whole bytes at =
-          (b : Book) × (book_of s ≡ some b) × (NoneFails fails51 b.records) × (NoneFails fails52 b.records) × (entry_over d.0 b.entry ≡ false)
+          (b : Book) × (book_of s ≡ Some b) × (NoneFails fails51 b.records) × (NoneFails fails52 b.records) × (entry_over d.0 b.entry ≡ false)
           × (bytes ≡ bytes_stored b.records) × (at ≡ moved_entry d b.entry)
 
-      there : {bytes : ℕ} {at : Entry} {x : List ℕ} → Load s d m (Loaded.Stored bytes at) x → Whole bytes at
+      there : {bytes : ℕ} {at : Option Relocatable} {x : List ℕ} → Load s d m (stored_answer bytes at) x → Whole bytes at
       there (Load.is_stored b f i u o at x l) = (b, f, none_in fails51 b f i, none_in fails52 b f u, o, refl, x)
-      there (Load.is_refused x) = elim x [ ]
 
-      back : Whole bytes at → loaded.answer ≡ Loaded.Stored bytes at
+      back : Whole bytes at → loaded.answer ≡ stored_answer bytes at
       back (b, f, inside, under, low, size, to) = go (load s d m)
         where
-          go : {a : Loaded} {x : List ℕ} → Load s d m a x → a ≡ Loaded.Stored bytes at
+          go : {a : Result Stored LoadError} {x : List ℕ} → Load s d m a x → a ≡ stored_answer bytes at
           go (Load.is_refused (is_broken g)) = cc
           go (Load.is_refused (is_outside c g n)) =
               let same : c ≡ b = cc in

@@ -1,7 +1,7 @@
 -- Which shapes an operand has by its pattern, and what an operation's row says of them: all that is told of the single operations.
 use Rattle.std.specs.Prelude.{◌+◌, ◌≡◌}
-use Rattle.theorems.specs.Logic.{Unit, tt, ℕ, List, Bool, true, false, refl, length, ltb}
-use Rattle.theorems.specs.Types.{Term, Form, Operation, Role, Pattern, Use, Rule, Traits, Data, DataForm, Address, Addressed, Shape, Line}
+use Rattle.theorems.specs.Logic.{Unit, tt, ℕ, List, Bool, true, false, refl, length, ltb, Result, Ok, Err}
+use Rattle.theorems.specs.Types.{Term, Operation, Role, Pattern, Use, Rule, Traits, Data, Address, Shape, Line}
 use Rattle.values.specs.Tests.{pick}
 use Rattle.letters.specs.Text.{stands}
 use Rattle.expressions.specs.Form.{form_of, expression_at}
@@ -17,41 +17,41 @@ use Rattle.lines.proofs.Laws.{line_shape}
 -- SHAPES
 
 -- a shape that is no refusal is its pattern's
-pub data Has : Pattern → Shape → Type 0 where
-  fails : {p : Pattern} {q : ℕ} → Has p (Shape.Fails q)
-  starts : {v : ℕ} → Has Pattern.StartTerm (Shape.StartAt v)
-  lone : Has Pattern.Expression Shape.Expression
-  nothing : Has Pattern.MaybeExpression Shape.Nothing
-  maybe : Has Pattern.MaybeExpression Shape.Expression
-  constant : {d : Data} → Has Pattern.Constant (Shape.Data d)
-  reserve : {d : Data} → Has Pattern.Reserve (Shape.Data d)
-  pair : {q : ℕ} → Has Pattern.Pair (Shape.Pair q)
-  two : {k : _} {a b : Address} → Has (Pattern.TwoAddresses k) (Shape.TwoAddresses a b)
-  one : {a : Address} {q : ℕ} → Has Pattern.AddressAndCode (Shape.AddressAndCode a q)
-  only : {a : Address} → Has Pattern.LoneAddress (Shape.LoneAddress a)
-  target : Has Pattern.Target Shape.Target
+pub data Has : Pattern → Result Shape ℕ → Type 0 where
+  fails : {p : Pattern} {q : ℕ} → Has p (Err q)
+  starts : {v : ℕ} → Has Pattern.StartTerm (Ok (Shape.StartAt v))
+  lone : Has Pattern.Expression (Ok Shape.Expression)
+  nothing : Has Pattern.MaybeExpression (Ok Shape.Nothing)
+  maybe : Has Pattern.MaybeExpression (Ok Shape.Expression)
+  constant : {d : Data} → Has Pattern.Constant (Ok (Shape.Data d))
+  reserve : {d : Data} → Has Pattern.Reserve (Ok (Shape.Data d))
+  pair : {q : ℕ} → Has Pattern.Pair (Ok (Shape.Pair q))
+  two : {k : _} {a b : Address} → Has (Pattern.TwoAddresses k) (Ok (Shape.TwoAddresses a b))
+  one : {a : Address} {q : ℕ} → Has Pattern.AddressAndCode (Ok (Shape.AddressAndCode a q))
+  only : {a : Address} → Has Pattern.LoneAddress (Ok (Shape.LoneAddress a))
+  target : Has Pattern.Target (Ok Shape.Target)
 
 module _ {p : Pattern} (o : List ℕ) where
-  pick_has : (b : Bool) {x y : Shape} → Has p x → Has p y → Has p (pick b x y)
+  pick_has : (b : Bool) {x y : Result Shape ℕ} → Has p x → Has p y → Has p (pick b x y)
   pick_has true h k = h
   pick_has false h k = k
 
-  ended_has : (q : ℕ) {x : Shape} → Has p x → Has p (ended o q x)
+  ended_has : (q : ℕ) {x : Shape} → Has p (Ok x) → Has p (ended o q x)
   unfolding ended
   ended_has q h = pick_has (ltb q (length o)) fails h
 
-  form_has : (f : Form) (on : ℕ → Shape) → ((q : ℕ) → Has p (on q)) → Has p (behind_form f on)
-  form_has (Form.Ends q) on h = h q
-  form_has (Form.Fails q) on h = fails
+  form_has : (f : Result ℕ ℕ) (on : ℕ → Result Shape ℕ) → ((q : ℕ) → Has p (on q)) → Has p (behind_form f on)
+  form_has (Ok q) on h = h q
+  form_has (Err q) on h = fails
 
-  comma_has : (q : ℕ) {x : Shape} → Has p x → Has p (pick (stands "," o q) x (Shape.Fails q))
+  comma_has : (q : ℕ) {x : Result Shape ℕ} → Has p x → Has p (pick (stands "," o q) x (Err q))
   comma_has q h = pick_has (stands "," o q) h fails
 
-  address_has : (x : Addressed) (on : Address → ℕ → Shape) → ((a : Address) (q : ℕ) → Has p (on a q)) → Has p (behind_addressed x on)
-  address_has (Addressed.Reads a q) on h = h a q
-  address_has (Addressed.Stops q) on h = fails
+  address_has : (x : Result (Address × ℕ) ℕ) (on : Address → ℕ → Result Shape ℕ) → ((a : Address) (q : ℕ) → Has p (on a q)) → Has p (behind_addressed x on)
+  address_has (Ok (a, q)) on h = h a q
+  address_has (Err q) on h = fails
 
-  last_has : (q : ℕ) {x : Shape} → Has p x → Has p (last_at o q x)
+  last_has : (q : ℕ) {x : Shape} → Has p (Ok x) → Has p (last_at o q x)
   unfolding last_at
   last_has q {x} h = form_has (form_of (expression_at o q)) (λ r. ended o r x) (λ r. ended_has r h)
 
@@ -60,23 +60,23 @@ unfolding start_shape end_shape pair_shape two_shape two_of one_shape only_shape
 pattern_has Pattern.Unreadable o = fails
 pattern_has Pattern.StartTerm o = pick_has o (is_absent o) starts (go (start_term o))
   where
-    go : (t : Term) → Has Pattern.StartTerm (start_of o t)
-    go (Term.Number v q) = ended_has o q starts
-    go (Term.Symbol k q) = fails
-    go (Term.Here q) = fails
-    go (Term.Bad q) = fails
+    go : (t : Result (Term × ℕ) ℕ) → Has Pattern.StartTerm (start_of o t)
+    go (Ok (Term.Number v, q)) = ended_has o q starts
+    go (Ok (Term.Symbol k, q)) = fails
+    go (Ok (Term.Here, q)) = fails
+    go (Err q) = fails
 pattern_has Pattern.Expression o = last_has o 0 lone
 pattern_has Pattern.MaybeExpression o = pick_has o (is_absent o) nothing (last_has o 0 maybe)
 pattern_has Pattern.Constant o = go (constant_form o)
   where
-    go : (f : DataForm) → Has Pattern.Constant (behind_data f)
-    go (DataForm.Of d) = constant
-    go (DataForm.Fails q) = fails
+    go : (f : Result Data ℕ) → Has Pattern.Constant (behind_data f)
+    go (Ok d) = constant
+    go (Err q) = fails
 pattern_has Pattern.Reserve o = go (reserve_form o)
   where
-    go : (f : DataForm) → Has Pattern.Reserve (behind_data f)
-    go (DataForm.Of d) = reserve
-    go (DataForm.Fails q) = fails
+    go : (f : Result Data ℕ) → Has Pattern.Reserve (behind_data f)
+    go (Ok d) = reserve
+    go (Err q) = fails
 pattern_has Pattern.Pair o =
     form_has o (form_of (expression_at o 0)) (λ q. behind_comma o q (λ r. last_at o r (Shape.Pair r)))
     (λ q. comma_has o q (last_has o (q + 1) pair))
@@ -94,17 +94,18 @@ pub line_has : (s : List ℕ) (l : Line) → reading_of s ≡ Statement l → Ha
 line_has s l q = rw (line_shape s l q) (pattern_has (pattern_of l.operation) (operand_columns s l))
 
 -- what holds of a data card's answers and of the other answers holds of those of every shape
-pub of_data_lem : (P : ((X : Type 0) → (Data → X) → X → X) → Type 0) → ((d : Data) → P (λ X on other. on d)) → P (λ X on other. other) → (x : Shape) → P (λ X on other. of_data x on other)
-of_data_lem P h k (Shape.Fails q) = k
-of_data_lem P h k Shape.Nothing = k
-of_data_lem P h k (Shape.StartAt v) = k
-of_data_lem P h k Shape.Expression = k
-of_data_lem P h k (Shape.Pair q) = k
-of_data_lem P h k Shape.Target = k
-of_data_lem P h k (Shape.TwoAddresses a b) = k
-of_data_lem P h k (Shape.AddressAndCode a q) = k
-of_data_lem P h k (Shape.LoneAddress a) = k
-of_data_lem P h k (Shape.Data d) = h d
+pub of_data_lem : (P : ((X : Type 0) → (Data → X) → X → X) → Type 0) → ((d : Data) → P (λ X on other. on d)) → P (λ X on other. other)
+    → (x : Result Shape ℕ) → P (λ X on other. of_data x on other)
+of_data_lem P h k (Err q) = k
+of_data_lem P h k (Ok Shape.Nothing) = k
+of_data_lem P h k (Ok (Shape.StartAt v)) = k
+of_data_lem P h k (Ok Shape.Expression) = k
+of_data_lem P h k (Ok (Shape.Pair q)) = k
+of_data_lem P h k (Ok Shape.Target) = k
+of_data_lem P h k (Ok (Shape.TwoAddresses a b)) = k
+of_data_lem P h k (Ok (Shape.AddressAndCode a q)) = k
+of_data_lem P h k (Ok (Shape.LoneAddress a)) = k
+of_data_lem P h k (Ok (Shape.Data d)) = h d
 
 -- ROWS
 

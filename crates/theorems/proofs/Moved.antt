@@ -3,14 +3,11 @@
 -- and loading the first by d and the second by 0 gives the same answer and the same storage, for every storage: 51 and 52 included, overlaid fields included.
 use Rattle.std.specs.Prelude.{◌+◌, ◌≤◌, ◌∷◌, ◌++◌, ◌≡◌}
 use Rattle.std.proofs.Common.{◌∙◌}
-use Rattle.theorems.specs.Logic.{tt, ℕ, List, [], map, List-as-Memᴰ, Memᴰ·map, Bool, true, false, refl, sym, ap, subst, arith, length, get_or, length-append, length-map, eqb}
+use Rattle.theorems.specs.Logic.{tt, ℕ, List, map, List-as-Memᴰ, Memᴰ·map, true, refl, sym, ap, subst, arith, length, get_or, length-append, length-map, Option, None, Some, Result}
 use Rattle.theorems.specs.Types.{Name, Shape, Record, Book, clean, State, through, made}
-use Rattle.values.specs.Tests.{pick}
-use Rattle.values.specs.declared.Value.TheVariants.{Relocatable}
 use Rattle.names.specs.Names.{find}
 use Rattle.names.specs.Raised.{raised_name}
 use Rattle.book.specs.Writing.{book_bytes, entry_fits}
-use Rattle.passes.specs.declared.Phase.TheVariants.{Within}
 use Rattle.passes.specs.One.{fresh, pass_one}
 use Rattle.passes.specs.Two.{outset, check_two, card_records, entry_from, book_from}
 use Rattle.passes.specs.Assembly.{assembled}
@@ -32,18 +29,12 @@ use Rattle.theorems.proofs.RaisedPasses.{AllUsual, pass-usual, pass-raised, card
 use Rattle.theorems.proofs.RaisedText.{RecordsRaised, records-moved, judged-same}
 use Rattle.theorems.proofs.Started.{AllComments, card_behind, begun_one, begun_two, only-comments, one-behind, two-behind}
 
-begun-raised : (d name at : ℕ) → begun_one name (at + d) ≡ raised_state d (begun_one name at)
-begun-raised d name at = ap (λ ns. record { counter = at + d; names = ns; phase = Within }) (go (eqb name 0))
-  where
-    x : ℕ → Name
-    x n = record { number = name; value = Relocatable (record { 0 = n }); length = 1 }
-
-    go : (b : Bool) → pick b [] (x (at + d) ∷ []) ≡ map (raised_name d) (pick b [] (x at ∷ []))
-    go true = refl
-    go false = refl
+begun-raised : (d : ℕ) (name : Option ℕ) (at : ℕ) → begun_one name (at + d) ≡ raised_state d (begun_one name at)
+begun-raised d (Some name) at = refl
+begun-raised d None at = refl
 
 -- the ends of pass one, the records and the entries of two such decks
-module _ (d : ℕ) (before after : List (List ℕ)) (s t : List ℕ) (name at : ℕ) (starts : Starting s name at) (starts' : Starting t name (at + d))
+module _ (d : ℕ) (before after : List (List ℕ)) (s t : List ℕ) (name : Option ℕ) (at : ℕ) (starts : Starting s name at) (starts' : Starting t name (at + d))
     (a e : State) (p : pass_one 1 fresh (before ++ s ∷ after) ≡ through a) (q : pass_one 1 fresh (before ++ t ∷ after) ≡ through e) where
   abbrev next : ℕ
   next = card_behind 1 before + 1
@@ -83,7 +74,7 @@ displacement_fits d ss ts same =
     let low = go o (rw x.operation at (line_has same.second x.line x.reads)) (rw (← shape) at (shape_in x.line.operation o)) in
     omega arith
   where
-    go : (o : List ℕ) {x : Shape} → Has StartTerm x → ShapeIn o x → start_or x 0 ≤ 65535
+    go : (o : List ℕ) {x : Result Shape ℕ} → Has StartTerm x → ShapeIn o x → start_or x 0 ≤ 65535
     go o Has.fails w = omega arith
     go o Has.starts w = omega arith
 

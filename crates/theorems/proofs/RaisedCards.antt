@@ -1,15 +1,13 @@
 -- One card, over names and a counter raised by d: what it does to the counter, to the names, to the bases, and its pieces.
 use Rattle.std.specs.Prelude.{◌+◌, ◌-◌, ◌∷◌, ◌≡◌}
 use Rattle.std.proofs.Common.{◌∙◌}
-use Rattle.theorems.specs.Logic.{ℕ, List, [], map, refl, sym, ap, arith}
-use Rattle.theorems.specs.Types.{Wanted, MaybeValue, Name, Operation, Role, DataCard, DataType, Data, Item, Address, Shape, Operands, Bases, Line, Addend, Read, Piece, plain}
-use Rattle.values.specs.declared.Value.TheVariants.{Absolute, Relocatable}
+use Rattle.theorems.specs.Logic.{ℕ, List, [], map, refl, sym, ap, arith, Option, None, Some, Result, Ok, Err}
+use Rattle.theorems.specs.Types.{Wanted, Name, Operation, Role, DataCard, DataType, Data, Address, Shape, Operands, Bases, Line, Addend, Read, Piece, plain}
 use Rattle.values.specs.Values.{only_relocatable, with_relocatable}
-use Rattle.values.proofs.Refusals.{lower-zero}
+use Rattle.values.proofs.Numbers.{lower-zero}
 use Rattle.terms.specs.Terms.{term_at}
 use Rattle.names.specs.Names.{find}
 use Rattle.names.specs.Raised.{raised_name}
-use Rattle.expressions.specs.declared.Evaluated.TheVariants.{Good}
 use Rattle.expressions.specs.Form.{Placed, expression_at}
 use Rattle.expressions.specs.Value.{evaluated, refusal_for}
 use Rattle.expressions.proofs.Laws.{accepted}
@@ -29,6 +27,7 @@ use Rattle.theorems.specs.Raised.{raised_maybe, raised_evaluated, raised_item, r
 use Rattle.theorems.proofs.Lines.{of_data_lem}
 use Rattle.theorems.proofs.Raising.{expression-raised, implied_raised}
 use Rattle.theorems.proofs.RaisedStatements.{lone-raised, bases_raised, pieces-raised}
+use Rattle.values.specs.declared.Value.{Value}
 
 -- OPERANDS: where no expression is refused on either side, they are the operands raised
 
@@ -41,13 +40,13 @@ module _ (d : ℕ) (ns : List Name) (here : ℕ) where
   evaluated-raised w e p q =
       let x = accepted w (evaluated (find ns) here e) p in
       let y = accepted w (evaluated (find up) (here + d) e) q in
-      y.good ∙ ap Good (expression-raised d ns here e _ _ x.good y.good) ∙ sym (ap (raised_evaluated d) x.good)
+      y.good ∙ ap Ok (expression-raised d ns here e _ _ x.good y.good) ∙ sym (ap (raised_evaluated d) x.good)
 
   module _ (o : List ℕ) where
-    item-raised : (i : Item) → item_no (item_of (find ns) here o i) ≡ 0 → item_no (item_of (find up) (here + d) o i) ≡ 0
+    item-raised : (i : Option ℕ) → item_no (item_of (find ns) here o i) ≡ 0 → item_no (item_of (find up) (here + d) o i) ≡ 0
         → item_of (find up) (here + d) o i ≡ raised_item d (item_of (find ns) here o i)
-    item-raised Item.Absent p q = refl
-    item-raised (Item.At x) p q = rw (evaluated-raised Wanted.OnlyAbsolute (expression_at o x) p q)
+    item-raised None p q = refl
+    item-raised (Some x) p q = rw (evaluated-raised Wanted.OnlyAbsolute (expression_at o x) p q)
 
     address-raised : (a : Address) → address_no (address_of (find ns) here o a) ≡ 0 → address_no (address_of (find up) (here + d) o a) ≡ 0
         → address_of (find up) (here + d) o a ≡ raised_address d (address_of (find ns) here o a)
@@ -59,29 +58,29 @@ module _ (d : ℕ) (ns : List Name) (here : ℕ) where
         rw (evaluated-raised Wanted.Any (expression_at o a.at) p₀ q₀, item-raised a.length p₂ q₂, item-raised a.register p₃ q₃, implied_raised d ns (term_at o a.at))
 
     -- R13.6: none of 18, 19 and 20 on either side
-    operands-raised : (op : Operation) (x : Shape) → expressions_no op (operands_of (find ns) here o x) ≡ 0
+    operands-raised : (op : Operation) (x : Result Shape ℕ) → expressions_no op (operands_of (find ns) here o x) ≡ 0
         → expressions_no op (operands_of (find up) (here + d) o x) ≡ 0
         → operands_of (find up) (here + d) o x ≡ raised_operands d (operands_of (find ns) here o x)
     unfolding operands_of expressions_no
-    operands-raised op (Shape.Fails p) e f = refl
-    operands-raised op Shape.Nothing e f = refl
-    operands-raised op (Shape.StartAt n) e f = refl
-    operands-raised op Shape.Expression e f = ap Operands.Lone (evaluated-raised (first_wanted op) (expression_at o 0) e f)
-    operands-raised op (Shape.Pair p) e f =
+    operands-raised op (Err p) e f = refl
+    operands-raised op (Ok Shape.Nothing) e f = refl
+    operands-raised op (Ok (Shape.StartAt n)) e f = refl
+    operands-raised op (Ok Shape.Expression) e f = ap Operands.Lone (evaluated-raised (first_wanted op) (expression_at o 0) e f)
+    operands-raised op (Ok (Shape.Pair p)) e f =
         let (e₀, e₁) = lower-zero _ _ e in
         let (f₀, f₁) = lower-zero _ _ f in
         rw (evaluated-raised (first_wanted op) (expression_at o 0) e₀ f₀, evaluated-raised Wanted.OnlyAbsolute (expression_at o p) e₁ f₁)
-    operands-raised op Shape.Target e f = ap Operands.Lone (evaluated-raised (first_wanted op) (expression_at o 0) e f)
-    operands-raised op (Shape.TwoAddresses a b) e f =
+    operands-raised op (Ok Shape.Target) e f = ap Operands.Lone (evaluated-raised (first_wanted op) (expression_at o 0) e f)
+    operands-raised op (Ok (Shape.TwoAddresses a b)) e f =
         let (e₀, e₁) = lower-zero _ _ e in
         let (f₀, f₁) = lower-zero _ _ f in
         rw (address-raised a e₀ f₀, address-raised b e₁ f₁)
-    operands-raised op (Shape.AddressAndCode a x) e f =
+    operands-raised op (Ok (Shape.AddressAndCode a x)) e f =
         let (e₀, e₁) = lower-zero _ _ e in
         let (f₀, f₁) = lower-zero _ _ f in
         rw (address-raised a e₀ f₀, evaluated-raised Wanted.OnlyAbsolute (expression_at o x) e₁ f₁)
-    operands-raised op (Shape.LoneAddress a) e f = ap Operands.LoneAddress (address-raised a e f)
-    operands-raised op (Shape.Data c) e f = go c.card c.kind e f
+    operands-raised op (Ok (Shape.LoneAddress a)) e f = ap Operands.LoneAddress (address-raised a e f)
+    operands-raised op (Ok (Shape.Data c)) e f = go c.card c.kind e f
       where
         x₀ : Operands
         x₀ = Operands.AddressConstants c.copies c.length (evaluated (find ns) here (expression_at o c.value))
@@ -120,10 +119,10 @@ module _ (d : ℕ) (s : List ℕ) (l : Line) (ns : List Name) (here : ℕ) where
     unfolding early_no counter_after
     counter-raised = go (role_of l.operation) later early early'
       where
-        by : (v : MaybeValue) → with_relocatable (only_relocatable (raised_maybe d v)) (λ n. n) (here + d) ≡ with_relocatable (only_relocatable v) (λ n. n) here + d
-        by (MaybeValue.Is (Absolute a)) = refl
-        by (MaybeValue.Is (Relocatable a)) = refl
-        by MaybeValue.Nothing = refl
+        by : (v : Option Value) → with_relocatable (only_relocatable (raised_maybe d v)) (λ n. n) (here + d) ≡ with_relocatable (only_relocatable v) (λ n. n) here + d
+        by (Some (Value.Absolute a)) = refl
+        by (Some (Value.Relocatable a)) = refl
+        by None = refl
 
         go : (r : Role) → again_no r ≡ 0 → early_by r l.operation x₀ ≡ 0 → early_by r l.operation x₁ ≡ 0 → counter_by r (lone_value x₁) (here + d) l ≡ counter_by r (lone_value x₀) here l + d
         go Role.Starts n h k = absurd (omega arith)
@@ -153,7 +152,7 @@ module _ (d : ℕ) (s : List ℕ) (l : Line) (ns : List Name) (here : ℕ) where
         go Role.Equates n h k = value-raised h k
         go Role.SetsCounter n h k = refl
         go Role.Ends n h k = refl
-        go Role.Advances n h k = ap (λ (n : ℕ). MaybeValue.Is (Relocatable (record { 0 = n }))) place
+        go Role.Advances n h k = ap (λ (n : ℕ). Some (Value.Relocatable (record { 0 = n }))) place
 
   -- THE BASES AND THE TEXT
 

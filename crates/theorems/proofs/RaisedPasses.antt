@@ -1,20 +1,18 @@
 -- Both passes from behind START, and from there raised by d: where both go through, pass one ends in its state raised, and pass two makes its records and its entry raised.
 use Rattle.std.specs.Prelude.{◌+◌, ◌∷◌, ◌≡◌}
 use Rattle.std.proofs.Common.{◌∙◌}
-use Rattle.theorems.specs.Logic.{Unit, tt, ℕ, List, [], map, Bool, true, false, refl, sym, ap, eqb}
-use Rattle.theorems.specs.Types.{Line, Reading, Role, Phase, MaybeValue, Name, Meaning, Entry, Course, Displacement, State, through, Piece, Record, clean}
-use Rattle.values.specs.Tests.{pick}
+use Rattle.theorems.specs.Logic.{Unit, tt, ℕ, List, [], map, refl, sym, ap, Option, None, Some}
+use Rattle.theorems.specs.Types.{Relocatable, Line, Reading, Role, Phase, Name, Meaning, Course, Displacement, State, through, Piece, Record, clean, Value}
 use Rattle.names.specs.Names.{find}
 use Rattle.names.specs.Raised.{raised_name}
 use Rattle.names.proofs.Names.{defined-raised}
 use Rattle.lines.specs.Lines.{reading_of}
 use Rattle.operations.specs.Traits.{role_of}
 use Rattle.passes.specs.Cards.{name_value, name_length, operands_at, value_at}
-use Rattle.passes.specs.One.{line_no, defined_as, again_no, start_no, reading_no, one_no, names_after, phase_after, reading_step, step_one, pass_one, early_no, early_by}
+use Rattle.passes.specs.One.{line_no, defined_as, with_name, again_no, start_no, reading_no, one_no, names_after, phase_after, reading_step, step_one, pass_one, early_no, early_by}
 use Rattle.passes.proofs.Turns.{pass_turn, check_turn}
 use Rattle.passes.proofs.Fine.{Fine, fine, one-zero}
-use Rattle.values.specs.declared.Value.TheVariants.{Absolute, Relocatable}
-use Rattle.values.proofs.Refusals.{or_zero}
+use Rattle.values.proofs.Numbers.{or_zero}
 use Rattle.operands.specs.Kinds.{expressions_no}
 use Rattle.statements.specs.Statements.{statement_no}
 use Rattle.passes.specs.Two.{reading_two_no, two_no, reading_two_step, step_two, check_two, reading_pieces, card_pieces, with_record, card_records, role_entry, reading_entry, entry_from}
@@ -65,16 +63,16 @@ module _ (d : ℕ) where
   names-raised : (st : State) (s : List ℕ) (l : Line) → name_value (find (map (raised_name d) st.names)) (st.counter + d) s l ≡ raised_maybe d (name_value (find st.names) st.counter s l)
       → names_after (raised_state d st) s l ≡ map (raised_name d) (names_after st s l)
   unfolding names_after
-  names-raised st s l e = rw e (go (eqb l.name 0) (name_value (find st.names) st.counter s l))
+  names-raised st s l e = rw e (go l.name (name_value (find st.names) st.counter s l))
     where
       size : ℕ
       size = name_length l.operation l.shape
 
-      go : (b : Bool) (v : MaybeValue) → pick b (map (raised_name d) st.names) (defined_as l.name (raised_maybe d v) size (map (raised_name d) st.names))
-          ≡ map (raised_name d) (pick b st.names (defined_as l.name v size st.names))
-      go true v = refl
-      go false (MaybeValue.Is v) = sym (defined-raised d (record { number = l.name; value = v; length = size }) st.names)
-      go false MaybeValue.Nothing = refl
+      go : (name : Option ℕ) (v : Option Value) → with_name name (λ k. defined_as k (raised_maybe d v) size (map (raised_name d) st.names)) (map (raised_name d) st.names)
+          ≡ map (raised_name d) (with_name name (λ k. defined_as k v size st.names) st.names)
+      go None v = refl
+      go (Some name) (Some v) = sym (defined-raised d (record { number = name; value = v; length = size }) st.names)
+      go (Some name) None = refl
 
   step-one : (st : State) (s : List ℕ) → Begun st.phase → one_no st s ≡ 0 → one_no (raised_state d st) s ≡ 0 → step_one (raised_state d st) s ≡ raised_state d (step_one st s)
   unfolding step_one
@@ -98,12 +96,12 @@ module _ (d : ℕ) where
       pass-raised ss (k + 1) (step_one st s) a b (begun-step st s n w) r (rw (step-one st s w n m) at t)
 
 -- no expression of a card that pass two lets through is refused
-expressions-fine : (look : ℕ → Meaning) (c : Course) (s : List ℕ) (l : Line) → reading_two_no look c s (Reading.Statement l) ≡ 0
+expressions-fine : (look : ℕ → Option Meaning) (c : Course) (s : List ℕ) (l : Line) → reading_two_no look c s (Reading.Statement l) ≡ 0
     → expressions_no l.operation (operands_at look c.counter s l) ≡ 0
 unfolding statement_no
 expressions-fine look c s l h = (or_zero _ _ h).0
 
-early-two : (look : ℕ → Meaning) (here : ℕ) (s : List ℕ) (l : Line) → expressions_no l.operation (operands_at look here s l) ≡ 0 → early_no look here s l ≡ 0
+early-two : (look : ℕ → Option Meaning) (here : ℕ) (s : List ℕ) (l : Line) → expressions_no l.operation (operands_at look here s l) ≡ 0 → early_no look here s l ≡ 0
 unfolding early_no
 early-two look here s l h = go (role_of l.operation)
   where
@@ -129,15 +127,15 @@ module _ (d : ℕ) (ns : List Name) where
     Raised x =
         (reading_two_step (find up) (raised_course d c) s x ≡ raised_course d (reading_two_step (find ns) c s x))
         × (reading_pieces (find up) (raised_course d c) s x ≡ map (raised_piece d) (reading_pieces (find ns) c s x))
-        × ((rest : Entry) → reading_entry (find up) (raised_course d c) s x (moved_entry by rest) ≡ moved_entry by (reading_entry (find ns) c s x rest))
+        × ((rest : Option Relocatable) → reading_entry (find up) (raised_course d c) s x (moved_entry by rest) ≡ moved_entry by (reading_entry (find ns) c s x rest))
 
-    entry-raised : (r : Role) (v : MaybeValue) (rest : Entry) → role_entry r (raised_maybe d v) (moved_entry by rest) ≡ moved_entry by (role_entry r v rest)
+    entry-raised : (r : Role) (v : Option Value) (rest : Option Relocatable) → role_entry r (raised_maybe d v) (moved_entry by rest) ≡ moved_entry by (role_entry r v rest)
     entry-raised Role.Starts v rest = refl
     entry-raised Role.Equates v rest = refl
     entry-raised Role.SetsCounter v rest = refl
-    entry-raised Role.Ends (MaybeValue.Is (Absolute a)) rest = refl
-    entry-raised Role.Ends (MaybeValue.Is (Relocatable a)) rest = refl
-    entry-raised Role.Ends MaybeValue.Nothing rest = refl
+    entry-raised Role.Ends (Some (Value.Absolute a)) rest = refl
+    entry-raised Role.Ends (Some (Value.Relocatable a)) rest = refl
+    entry-raised Role.Ends None rest = refl
     entry-raised Role.Advances v rest = refl
 
     card-raised : Usual s → two_no (find ns) c s ≡ 0 → two_no (find up) (raised_course d c) s ≡ 0 → Raised (reading_of s)

@@ -1,15 +1,14 @@
 -- Pieces and records raised by d: moving the listed fields of a text by d raises its pieces, and loading records by d comes to what loading those raised by d does.
 use Rattle.std.specs.Prelude.{◌+◌, ◌%◌, ◌<◌, ◌∷◌, ◌++◌, ◌≡◌}
 use Rattle.std.proofs.Common.{◌∙◌}
-use Rattle.theorems.specs.Logic.{Unit, ℕ, List, [], map, append_assoc, false, true, refl, sym, ap, arith, add-zero, length, length-append, sets}
-use Rattle.theorems.specs.Types.{Displacement, Entry, Piece, plain, value, Record}
+use Rattle.theorems.specs.Logic.{Unit, ℕ, List, [], map, append_assoc, false, true, refl, sym, ap, arith, add-zero, length, length-append, sets, Option, None, Some}
+use Rattle.theorems.specs.Types.{Displacement, Value, Relocatable, Piece, plain, value, Record}
 use Rattle.values.specs.Words.{word, two_bytes}
-use Rattle.values.specs.declared.Value.TheVariants.{Absolute, Relocatable}
 use Rattle.values.proofs.Laws.{word-shift}
 use Rattle.values.specs.Values.{amount_of, moved_by}
 use Rattle.encode.specs.Pieces.{text_of, offsets_from, fields_of}
 use Rattle.fields.specs.Fields.{moved_in, over_in, over_field}
-use Rattle.fields.proofs.Laws.{moved-low, over-later, over_none, moved-first, moved_none, moved_length}
+use Rattle.fields.proofs.Laws.{moved-low, over-later, moved-first, moved_none, moved_length}
 use Rattle.book.specs.Writing.{entry_fits}
 use Rattle.load.specs.Load.{stored, stored_all, bytes_stored, first_card, outside, room_in, accepted, judged_entry, judged}
 use Rattle.load.proofs.Laws.{first-miss, first-none}
@@ -44,8 +43,8 @@ module _ (d : ℕ) where
   unfolding offsets_from
   fields_stay [] at = refl
   fields_stay (plain b ∷ ps) at = fields_stay ps (at + 1)
-  fields_stay (value (Absolute a) ∷ ps) at = fields_stay ps (at + 2)
-  fields_stay (value (Relocatable a) ∷ ps) at = ap (λ os. at ∷ os) (fields_stay ps (at + 2))
+  fields_stay (value (Value.Absolute a) ∷ ps) at = fields_stay ps (at + 2)
+  fields_stay (value (Value.Relocatable a) ∷ ps) at = ap (λ os. at ∷ os) (fields_stay ps (at + 2))
 
   -- behind w, of whose fields those before have been moved and stand in t: the fields of the pieces are moved, and none is over
   abbrev Behind : List Piece → List ℕ → List ℕ → Type 0
@@ -63,12 +62,12 @@ module _ (d : ℕ) where
       (ih (omega arith) low)
 
   moved-behind : (ps : List Piece) (w t : List ℕ) → Behind ps w t
-  unfolding offsets_from text_of
-  moved-behind [] w t e low = (moved_none by (w ++ []) (t ++ []), over_none by (w ++ []))
+  unfolding offsets_from text_of over_in
+  moved-behind [] w t e low = (moved_none by (w ++ []) (t ++ []), refl)
   moved-behind (plain b ∷ ps) w t e low = onward ps w t (b ∷ []) (b ∷ []) e refl low (moved-behind ps (w ++ (b ∷ [])) (t ++ (b ∷ [])))
-  moved-behind (value (Absolute a) ∷ ps) w t e low =
+  moved-behind (value (Value.Absolute a) ∷ ps) w t e low =
       onward ps w t (two_bytes a.0) (two_bytes a.0) e refl low.1 (moved-behind ps (w ++ two_bytes a.0) (t ++ two_bytes a.0))
-  moved-behind (value (Relocatable a) ∷ ps) w t e (here, low) =
+  moved-behind (value (Value.Relocatable a) ∷ ps) w t e (here, low) =
       let was = w ++ (two_bytes a.0 ++ text_of ps) in
       let os = offsets_from (length w + 2) ps in
       let seam = word_seam w a.0 (text_of ps) in
@@ -93,8 +92,8 @@ module _ (d : ℕ) where
 pub raised-by-none : (ps : List Piece) → map (raised_piece 0) ps ≡ ps
 raised-by-none [] = refl
 raised-by-none (plain b ∷ ps) = ap (λ qs. plain b ∷ qs) (raised-by-none ps)
-raised-by-none (value (Absolute a) ∷ ps) = ap (λ qs. value (Absolute a) ∷ qs) (raised-by-none ps)
-raised-by-none (value (Relocatable a) ∷ ps) = rw (add-zero a.0) (ap (λ qs. value (Relocatable a) ∷ qs) (raised-by-none ps))
+raised-by-none (value (Value.Absolute a) ∷ ps) = ap (λ qs. value (Value.Absolute a) ∷ qs) (raised-by-none ps)
+raised-by-none (value (Value.Relocatable a) ∷ ps) = rw (add-zero a.0) (ap (λ qs. value (Value.Relocatable a) ∷ qs) (raised-by-none ps))
 
 module _ (d : ℕ) where
   abbrev shift : Displacement
@@ -148,15 +147,15 @@ module _ (d : ℕ) where
       rw (moved-pieces d ps low, moved-pieces 0 up (raised_stays ps low), raised-by-none up, add-zero (address + d)) (stored_same rs' qs' r _)
 
   module _ (rs qs : List Record) (r : RecordsRaised rs qs) (m : List ℕ) where
-    accepted-same : (e : Entry) → accepted shift rs m e ≡ accepted still qs m e
+    accepted-same : (e : Option Relocatable) → accepted shift rs m e ≡ accepted still qs m e
     accepted-same e = rw (bytes_same rs qs r, stored_same rs qs r m)
 
-    entry-same : (e : Entry) → entry_fits (moved_entry shift e) ≡ true → judged_entry e shift rs m ≡ judged_entry (moved_entry shift e) still qs m
+    entry-same : (e : Option Relocatable) → entry_fits (moved_entry shift e) ≡ true → judged_entry e shift rs m ≡ judged_entry (moved_entry shift e) still qs m
     unfolding moved_by
-    entry-same Entry.Absent h = accepted-same Entry.Absent
-    entry-same (Entry.At e) h = rw (add-zero (e.0 + d), h) (accepted-same (Entry.At (record { 0 = e.0 + d })))
+    entry-same None h = accepted-same None
+    entry-same (Some e) h = rw (add-zero (e.0 + d), h) (accepted-same (Some (record { 0 = e.0 + d })))
 
     -- answer and storage, whatever the storage is
-    pub judged-same : (e : Entry) → entry_fits (moved_entry shift e) ≡ true → judged e shift rs m ≡ judged (moved_entry shift e) still qs m
+    pub judged-same : (e : Option Relocatable) → entry_fits (moved_entry shift e) ≡ true → judged e shift rs m ≡ judged (moved_entry shift e) still qs m
     unfolding judged
     judged-same e h = rw (outside-same (room_in m) rs qs r, (none_over rs qs r).0, (none_over rs qs r).1, entry-same e h)

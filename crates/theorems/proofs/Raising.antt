@@ -5,18 +5,19 @@
 -- The form of an expression is no matter of names or counter: `expression_at` takes neither.
 use Rattle.std.specs.Prelude.{◌+◌, ◌-◌, ◌*◌, ◌%◌, ◌≤◌, ◌∷◌, ◌≡◌}
 use Rattle.std.proofs.Common.{◌∙◌}
-use Rattle.theorems.specs.Logic.{ℕ, List, [], map, Bool, true, false, not, refl, sym, ap, fun_ext, add-zero, mul-zero, mul-one, mul-add, arith, ltb, eqb, ltb-false, eqb-true}
-use Rattle.theorems.specs.Types.{Value, Term, Meaning, Factor, Kind, Name, Wanted, Evaluated, Product, Addend, Read}
+use Rattle.theorems.specs.Logic.{ℕ, List, [], map, Bool, true, false, not, refl, sym, ap, fun_ext, add-zero, mul-zero, mul-one, mul-add, arith, ltb, eqb, ltb-false, eqb-true, Option, None, Some, Result, Ok, Err}
+use Rattle.theorems.specs.Types.{Value, Term, Meaning, Factor, Kind, Name, Wanted, Product, Addend, Read, Fault}
 use Rattle.values.specs.Tests.{pick, either}
 use Rattle.names.specs.Raised.{raised_value, raised_meaning, raised_name}
 use Rattle.expressions.specs.Form.{Placed}
-use Rattle.expressions.specs.Value.{meaning_factor, factor_of, placed_factor, addend_factors, times, any_relocatable, any_undefined, mixed_with, alone_with, worth, mixed, alone, if_plus, if_minus, counted, added, subtracted, after_plus, after_minus, any_mixed, any_unknown, Sum, sum_of, absolute_of, relocatable_of, value_of, evaluated, suits, kind_of, refusal_for, meaning_length, term_length}
+use Rattle.expressions.specs.Value.{value_factor, meaning_factor, factor_of, factor_at, placed_factor, addend_factors, times, any_relocatable, any_undefined, mixed_with, alone_with, worth, mixed, alone, if_plus, if_minus, counted, added, subtracted, after_plus, after_minus, any_mixed, any_unknown, Sum, sum_of, absolute_of, relocatable_of, value_of, evaluated, suits, kind_of, refusal_for, meaning_length, term_length}
 use Rattle.values.proofs.Laws.{clash}
 use Rattle.names.specs.Names.{find}
 use Rattle.names.proofs.Names.{find-raised}
 use Rattle.expressions.specs.Form.Read.{up_to, fails}
 use Rattle.theorems.specs.Raising.{raised_look, sort_of, Sort, undefined_places, undefined_terms, undefined_at}
 use Rattle.theorems.specs.Raising.Sort.{undefined, no_kind, of_kind, unformed}
+use Rattle.expressions.specs.declared.Fault.TheVariants.{Malformed, Undefined, WrongKind, OutOfRange}
 
 pub either-false : (a b : Bool) → either a b ≡ false → (a ≡ false) × (b ≡ false)
 either-false true b e = clash (cc)
@@ -34,17 +35,23 @@ module _ (d : ℕ) where
   abbrev pub raised_addend : Addend Factor → Addend Factor
   raised_addend a = record { minus = a.minus; product = raised_product a.product }
 
-  module _ (look : ℕ → Meaning) (here : ℕ) where
-    pub factor_raised : (t : Term) → factor_of (raised_look d look) (here + d) t ≡ raised_factor (factor_of look here t)
-    factor_raised (Term.Number v q) = simp (mul-zero, add-zero)
-    factor_raised (Term.Symbol k q) = go (look k)
+  module _ (look : ℕ → Option Meaning) (here : ℕ) where
+    term_raised : (t : Term) → factor_of (raised_look d look) (here + d) t ≡ raised_factor (factor_of look here t)
+    term_raised (Term.Number v) = simp (mul-zero, add-zero)
+    term_raised (Term.Symbol k) = go (look k)
       where
-        go : (e : Meaning) → meaning_factor (raised_meaning d e) ≡ raised_factor (meaning_factor e)
-        go (Meaning.Known (Value.Absolute a) l) = simp (mul-zero, add-zero)
-        go (Meaning.Known (Value.Relocatable a) l) = simp mul-one
-        go Meaning.Unknown = simp (mul-zero, add-zero)
-    factor_raised (Term.Here q) = simp mul-one
-    factor_raised (Term.Bad q) = simp (mul-zero, add-zero)
+        known : (v : Value) → value_factor (raised_value d v) ≡ raised_factor (value_factor v)
+        known (Value.Absolute a) = simp (mul-zero, add-zero)
+        known (Value.Relocatable a) = simp mul-one
+
+        go : (e : Option Meaning) → meaning_factor (raised_meaning d e) ≡ raised_factor (meaning_factor e)
+        go (Some m) = known m.value
+        go None = simp (mul-zero, add-zero)
+    term_raised Term.Here = simp mul-one
+
+    factor_raised : (t : Result (Term × ℕ) ℕ) → factor_at (raised_look d look) (here + d) t ≡ raised_factor (factor_at look here t)
+    factor_raised (Ok (t, q)) = term_raised t
+    factor_raised (Err q) = simp (mul-zero, add-zero)
 
     factors_raised : (xs : List Placed) → map (placed_factor (raised_look d look) (here + d)) xs ≡ map raised_factor (map (placed_factor look here) xs)
     factors_raised [] = refl
@@ -146,7 +153,7 @@ module _ (d : ℕ) where
 
   -- KINDS
 
-  one_sort : (b : Bool) (v : Value) (k : Kind) → sort_of (Evaluated.Good v) ≡ of_kind k → sort_of (pick b (Evaluated.OutOfRange k) (Evaluated.Good v)) ≡ of_kind k
+  one_sort : (b : Bool) (v : Value) (k : Kind) → sort_of (Ok v) ≡ of_kind k → sort_of (pick b (Err (OutOfRange k)) (Ok v)) ≡ of_kind k
   one_sort true v k e = refl
   one_sort false v k e = e
 
@@ -162,8 +169,8 @@ module _ (d : ℕ) where
       rw (any_unknown-raised xs, any_mixed-raised xs, plus-raised xs, minus-raised xs)
       (go (any_unknown xs) (any_mixed xs) (eqb (after_plus xs) (after_minus xs)) (eqb (after_plus xs) (after_minus xs + 1)) (sum_of (map raised_addend xs)) (sum_of xs))
     where
-      go : (a b c e : Bool) (s t : Sum) → sort_of (pick a Evaluated.Undefined (pick b Evaluated.WrongKind (pick c (absolute_of s) (pick e (relocatable_of s) Evaluated.WrongKind))))
-          ≡ sort_of (pick a Evaluated.Undefined (pick b Evaluated.WrongKind (pick c (absolute_of t) (pick e (relocatable_of t) Evaluated.WrongKind))))
+      go : (a b c e : Bool) (s t : Sum) → sort_of (pick a (Err Undefined) (pick b (Err WrongKind) (pick c (absolute_of s) (pick e (relocatable_of s) (Err WrongKind)))))
+          ≡ sort_of (pick a (Err Undefined) (pick b (Err WrongKind) (pick c (absolute_of t) (pick e (relocatable_of t) (Err WrongKind)))))
       go true b c e s t = refl
       go false true c e s t = refl
       go false false true e s t = absolute_sort s ∙ sym (absolute_sort t)
@@ -172,25 +179,25 @@ module _ (d : ℕ) where
 
   -- VALUES
 
-  good-value : (o under over : Bool) (k : Kind) (u v : Value) → pick (either o (either under over)) (Evaluated.OutOfRange k) (Evaluated.Good u) ≡ Evaluated.Good v → (under ≡ false) × (v ≡ u)
+  good-value : (o under over : Bool) (k : Kind) (u v : Value) → pick (either o (either under over)) (Err (OutOfRange k)) (Ok u) ≡ Ok v → (under ≡ false) × (v ≡ u)
   good-value true under over k u v e = clash (cc)
   good-value false true over k u v e = clash (cc)
   good-value false false true k u v e = clash (cc)
   good-value false false false k u v e = (refl, cc)
 
-  good-absolute : (s : Sum) (v : Value) → absolute_of s ≡ Evaluated.Good v
+  good-absolute : (s : Sum) (v : Value) → absolute_of s ≡ Ok v
       → (s.subtracted ≤ s.added + 65536) × (v ≡ Value.Absolute (record { 0 = (s.added + 65536 - s.subtracted) % 65536 }))
   good-absolute s v e =
       let (h, is) = good-value s.out (ltb (s.added + 65536) s.subtracted) (ltb (s.subtracted + 65535) s.added) Kind.Absolute (Value.Absolute (record { 0 = (s.added + 65536 - s.subtracted) % 65536 })) v e in
       (ltb-false (s.added + 65536) s.subtracted h, is)
 
-  good-relocatable : (s : Sum) (v : Value) → relocatable_of s ≡ Evaluated.Good v → (s.subtracted ≤ s.added) × (v ≡ Value.Relocatable (record { 0 = s.added - s.subtracted }))
+  good-relocatable : (s : Sum) (v : Value) → relocatable_of s ≡ Ok v → (s.subtracted ≤ s.added) × (v ≡ Value.Relocatable (record { 0 = s.added - s.subtracted }))
   good-relocatable s v e =
       let (h, is) = good-value s.out (ltb s.added s.subtracted) (ltb (s.subtracted + 65535) s.added) Kind.Relocatable (Value.Relocatable (record { 0 = s.added - s.subtracted })) v e in
       (ltb-false s.added s.subtracted h, is)
 
   module _ (xs : List (Addend Factor)) (v w : Value) (m : any_mixed xs ≡ false) where
-    absolute_stays : after_plus xs ≡ after_minus xs → absolute_of (sum_of xs) ≡ Evaluated.Good v → absolute_of (sum_of (map raised_addend xs)) ≡ Evaluated.Good w → w ≡ raised_value d v
+    absolute_stays : after_plus xs ≡ after_minus xs → absolute_of (sum_of xs) ≡ Ok v → absolute_of (sum_of (map raised_addend xs)) ≡ Ok w → w ≡ raised_value d v
     absolute_stays k e f =
         let (l, i) = good-absolute (sum_of xs) v e in
         let (l', j) = good-absolute (sum_of (map raised_addend xs)) w f in
@@ -199,7 +206,7 @@ module _ (d : ℕ) where
         let q : (added (map raised_addend xs) + 65536 - subtracted (map raised_addend xs)) % 65536 ≡ (added xs + 65536 - subtracted xs) % 65536 = ap (λ (n : ℕ). n % 65536) (omega arith) in
         j ∙ ap (λ (n : ℕ). Value.Absolute (record { 0 = n })) q ∙ sym (ap (raised_value d) i)
 
-    relocatable_moves : after_plus xs ≡ after_minus xs + 1 → relocatable_of (sum_of xs) ≡ Evaluated.Good v → relocatable_of (sum_of (map raised_addend xs)) ≡ Evaluated.Good w → w ≡ raised_value d v
+    relocatable_moves : after_plus xs ≡ after_minus xs + 1 → relocatable_of (sum_of xs) ≡ Ok v → relocatable_of (sum_of (map raised_addend xs)) ≡ Ok w → w ≡ raised_value d v
     relocatable_moves k e f =
         let (l, i) = good-relocatable (sum_of xs) v e in
         let (l', j) = good-relocatable (sum_of (map raised_addend xs)) w f in
@@ -208,15 +215,15 @@ module _ (d : ℕ) where
         let q : added (map raised_addend xs) - subtracted (map raised_addend xs) ≡ added xs - subtracted xs + d = omega arith in
         j ∙ ap (λ (n : ℕ). Value.Relocatable (record { 0 = n })) q ∙ sym (ap (raised_value d) i)
 
-  pub sum_raised : (xs : List (Addend Factor)) (v w : Value) → value_of (sum_of xs) ≡ Evaluated.Good v → value_of (sum_of (map raised_addend xs)) ≡ Evaluated.Good w → w ≡ raised_value d v
+  pub sum_raised : (xs : List (Addend Factor)) (v w : Value) → value_of (sum_of xs) ≡ Ok v → value_of (sum_of (map raised_addend xs)) ≡ Ok w → w ≡ raised_value d v
   unfolding value_of
   sum_raised xs v w e f =
       go (any_unknown xs) (any_mixed xs) refl (eqb (after_plus xs) (after_minus xs)) refl (eqb (after_plus xs) (after_minus xs + 1)) refl e
       (rw (any_unknown-raised xs, any_mixed-raised xs, plus-raised xs, minus-raised xs) at f)
     where
       go : (a b : Bool) → any_mixed xs ≡ b → (c : Bool) → eqb (after_plus xs) (after_minus xs) ≡ c → (g : Bool) → eqb (after_plus xs) (after_minus xs + 1) ≡ g
-          → pick a Evaluated.Undefined (pick b Evaluated.WrongKind (pick c (absolute_of (sum_of xs)) (pick g (relocatable_of (sum_of xs)) Evaluated.WrongKind))) ≡ Evaluated.Good v
-          → pick a Evaluated.Undefined (pick b Evaluated.WrongKind (pick c (absolute_of (sum_of (map raised_addend xs))) (pick g (relocatable_of (sum_of (map raised_addend xs))) Evaluated.WrongKind))) ≡ Evaluated.Good w
+          → pick a (Err Undefined) (pick b (Err WrongKind) (pick c (absolute_of (sum_of xs)) (pick g (relocatable_of (sum_of xs)) (Err WrongKind)))) ≡ Ok v
+          → pick a (Err Undefined) (pick b (Err WrongKind) (pick c (absolute_of (sum_of (map raised_addend xs))) (pick g (relocatable_of (sum_of (map raised_addend xs))) (Err WrongKind)))) ≡ Ok w
           → w ≡ raised_value d v
       go true b m c k g n e f = clash (cc)
       go false true m c k g n e f = clash (cc)
@@ -226,13 +233,13 @@ module _ (d : ℕ) where
 
 -- ONE EXPRESSION, over whatever the names say
 
-module _ (d : ℕ) (look : ℕ → Meaning) (here : ℕ) where
+module _ (d : ℕ) (look : ℕ → Option Meaning) (here : ℕ) where
   sort_raised : (e : Read (List (Addend Placed))) → sort_of (evaluated (raised_look d look) (here + d) e) ≡ sort_of (evaluated look here e)
   unfolding evaluated
   sort_raised (up_to xs q) = rw (addends_raised d look here xs) (sum_sort d (map (addend_factors look here) xs))
   sort_raised (fails q) = refl
 
-  value-raised : (e : Read (List (Addend Placed))) (v w : Value) → evaluated look here e ≡ Evaluated.Good v → evaluated (raised_look d look) (here + d) e ≡ Evaluated.Good w → w ≡ raised_value d v
+  value-raised : (e : Read (List (Addend Placed))) (v w : Value) → evaluated look here e ≡ Ok v → evaluated (raised_look d look) (here + d) e ≡ Ok w → w ≡ raised_value d v
   unfolding evaluated
   value-raised (up_to xs q) v w e f = sum_raised d (map (addend_factors look here) xs) v w e (rw (addends_raised d look here xs) at f)
   value-raised (fails q) v w e f = clash (cc)
@@ -247,15 +254,15 @@ module _ (d : ℕ) (look : ℕ → Meaning) (here : ℕ) where
   terms_raised [] = refl
   terms_raised (a ∷ rest) = rw (places-raised (a.product.first ∷ a.product.others), terms_raised rest)
 
-  length-raised : (t : Term) → term_length (raised_look d look) t ≡ term_length look t
-  length-raised (Term.Number v q) = refl
-  length-raised (Term.Symbol k q) = go (look k)
+  length-raised : (t : Result (Term × ℕ) ℕ) → term_length (raised_look d look) t ≡ term_length look t
+  length-raised (Ok (Term.Number v, q)) = refl
+  length-raised (Ok (Term.Symbol k, q)) = go (look k)
     where
-      go : (e : Meaning) → meaning_length (raised_meaning d e) ≡ meaning_length e
-      go (Meaning.Known v l) = refl
-      go Meaning.Unknown = refl
-  length-raised (Term.Here q) = refl
-  length-raised (Term.Bad q) = refl
+      go : (e : Option Meaning) → meaning_length (raised_meaning d e) ≡ meaning_length e
+      go (Some m) = refl
+      go None = refl
+  length-raised (Ok (Term.Here, q)) = refl
+  length-raised (Err q) = refl
 
 -- REFUSALS 18 AND 19 are told by what is known before the value
 
@@ -271,16 +278,16 @@ is19 w undefined = false
 is19 w no_kind = true
 is19 w (of_kind k) = not (suits w k)
 
-told : (w : Wanted) (e : Evaluated) → (eqb (refusal_for w e) 18 ≡ is18 (sort_of e)) × (eqb (refusal_for w e) 19 ≡ is19 w (sort_of e))
-told w (Evaluated.Good v) = go (suits w (kind_of v))
+told : (w : Wanted) (e : Result Value Fault) → (eqb (refusal_for w e) 18 ≡ is18 (sort_of e)) × (eqb (refusal_for w e) 19 ≡ is19 w (sort_of e))
+told w (Ok v) = go (suits w (kind_of v))
   where
     go : (b : Bool) → (eqb (pick b 0 19) 18 ≡ false) × (eqb (pick b 0 19) 19 ≡ not b)
     go true = (refl, refl)
     go false = (refl, refl)
-told w Evaluated.Malformed = (refl, refl)
-told w Evaluated.Undefined = (refl, refl)
-told w Evaluated.WrongKind = (refl, refl)
-told w (Evaluated.OutOfRange k) = go (suits w k)
+told w (Err Malformed) = (refl, refl)
+told w (Err Undefined) = (refl, refl)
+told w (Err WrongKind) = (refl, refl)
+told w (Err (OutOfRange k)) = go (suits w k)
   where
     go : (b : Bool) → (eqb (pick b 20 19) 18 ≡ false) × (eqb (pick b 20 19) 19 ≡ not b)
     go true = (refl, refl)
@@ -292,11 +299,11 @@ look-raised : (d : ℕ) (ns : List Name) → find (map (raised_name d) ns) ≡ r
 look-raised d ns = fun_ext (find-raised d ns)
 
 module _ (d : ℕ) (ns : List Name) (here : ℕ) (e : Read (List (Addend Placed))) where
-  abbrev raised : Evaluated
+  abbrev raised : Result Value Fault
   raised = evaluated (find (map (raised_name d) ns)) (here + d) e
 
   -- where both have a value, an absolute one stays and a relocatable one is d higher
-  pub expression-raised : (v w : Value) → evaluated (find ns) here e ≡ Evaluated.Good v → evaluated (find (map (raised_name d) ns)) (here + d) e ≡ Evaluated.Good w → w ≡ raised_value d v
+  pub expression-raised : (v w : Value) → evaluated (find ns) here e ≡ Ok v → evaluated (find (map (raised_name d) ns)) (here + d) e ≡ Ok w → w ≡ raised_value d v
   expression-raised v w p q = value-raised d (find ns) here e v w p (rw (look-raised d ns) at q)
 
   -- the kind, that there is none, that a name is not defined, that the form is wrong: the same in both
@@ -319,5 +326,5 @@ module _ (d : ℕ) (ns : List Name) (here : ℕ) (e : Read (List (Addend Placed)
       go (fails q) = refl
 
 -- the length that an expression implies
-pub implied_raised : (d : ℕ) (ns : List Name) (t : Term) → term_length (find (map (raised_name d) ns)) t ≡ term_length (find ns) t
+pub implied_raised : (d : ℕ) (ns : List Name) (t : Result (Term × ℕ) ℕ) → term_length (find (map (raised_name d) ns)) t ≡ term_length (find ns) t
 implied_raised d ns t = rw (look-raised d ns) (length-raised d (find ns) 0 t)

@@ -3,8 +3,8 @@
 -- so loading it is never refused by 50.
 use Rattle.std.specs.Prelude.{◌+◌, ◌≤◌, ◌<◌, ◌∷◌, ◌≡◌}
 use Rattle.std.proofs.Common.{◌∙◌}
-use Rattle.theorems.specs.Logic.{ℕ, suc, List, [], Bool, true, false, some, refl, ap, arith, length, get_or, take, drop, sets, sets-eq, take-append_seam, le-leb}
-use Rattle.theorems.specs.Types.{clean, Value, Displacement, Meaning, Entry, Operation, Shape, Reading, Role, Course, MaybeValue, DataCard, Data, Pattern, Record, Book, Piece, State, through, made}
+use Rattle.theorems.specs.Logic.{ℕ, suc, List, [], Bool, true, false, refl, ap, arith, length, get_or, take, drop, sets, sets-eq, take-append_seam, le-leb, Option, None, Some, Result, Err}
+use Rattle.theorems.specs.Types.{clean, Value, Displacement, Meaning, Operation, Shape, Reading, Role, Course, DataCard, Data, Pattern, Record, Book, Piece, State, through, made, Relocatable}
 use Rattle.values.specs.Tests.{pick}
 use Rattle.values.specs.Values.{amount_of}
 use Rattle.book.specs.Book.{book_of}
@@ -17,18 +17,17 @@ use Rattle.forms.specs.Size.{size_of}
 use Rattle.forms.proofs.Laws.{address-size}
 use Rattle.operations.specs.Traits.{use_of, role_of, fixed_size}
 use Rattle.encode.specs.Pieces.{text_of}
-use Rattle.load.specs.declared.Loaded.TheVariants.{Broken}
+use Rattle.load.specs.declared.LoadError.TheVariants.{Broken}
 use Rattle.load.specs.Load.{judged, of_book, loading}
 use Rattle.lines.specs.Lines.{reading_of, operand_columns}
 use Rattle.passes.specs.Cards.{value_at}
 use Rattle.passes.specs.One.{fresh, one_no, pass_one, sizes_no}
 use Rattle.data.specs.Sizes.{data_size, data_no_by}
 use Rattle.passes.specs.Two.{check_two, outset, step_two, card_pieces, record_of_pieces, with_record, card_records, entry_by, role_entry, reading_entry, entry_from, book_from}
-use Rattle.passes.specs.declared.Assembled.TheVariants.{Made}
 use Rattle.passes.specs.Assembly.{assembled, assembling}
 use Rattle.names.specs.Names.{find}
 use Rattle.theorems.specs.Grow.{names_by, behind, behind_one, behind_two, look_in, counter_two, reading_size, card_size}
-use Rattle.theorems.specs.Accepted.{end_one}
+use Rattle.theorems.specs.Accepted.{made_answer, end_one}
 use Rattle.theorems.specs.Fields.{pieces_at}
 use Rattle.theorems.proofs.Lines.{Has, line_has, jumps, Fixed, row_of}
 use Rattle.theorems.proofs.Grow.{room}
@@ -46,7 +45,7 @@ data_most : (c : DataCard) (d : Data) → data_no_by c d ≡ 0 → (data_makes c
 data_most DataCard.Constant d n = (omega arith, (constant-fine d n).size)
 data_most DataCard.Reserve d n = (omega arith, omega arith)
 
-text-most : (op : Operation) (p : Pattern) (x : Shape) → Has p x → Fixed p (use_of op) (fixed_size op) → sizes_no x ≡ 0 → (text_size op x ≤ size_of op x) × (text_size op x ≤ 256)
+text-most : (op : Operation) (p : Pattern) (x : Result Shape ℕ) → Has p x → Fixed p (use_of op) (fixed_size op) → sizes_no x ≡ 0 → (text_size op x ≤ size_of op x) × (text_size op x ≤ 256)
 text-most op p x Has.fails t n = (omega arith, omega arith)
 text-most op p x Has.starts t n = (omega arith, omega arith)
 text-most op p x Has.nothing t n = (omega arith, omega arith)
@@ -98,7 +97,7 @@ accepted_source ss n b h = go (rw h at (fate ss))
 
 -- THE RECORDS
 
-records-fair : (look : ℕ → Meaning) (ss : List (List ℕ)) (k : ℕ) (c : Course) (last : ℕ)
+records-fair : (look : ℕ → Option Meaning) (ss : List (List ℕ)) (k : ℕ) (c : Course) (last : ℕ)
     → ((i : ℕ) → i < length ss → let size = length (text_of (card_pieces look (behind_two look i c ss) (get_or ss i []))) in (size ≤ 256) × ((behind_two look i c ss).counter + size ≤ 65536))
     → last < k → k + length ss ≤ 4001 → fair_all last (card_records look k c ss) ≡ true
 unfolding card_records fair_all behind
@@ -126,24 +125,24 @@ records-fair look (s ∷ ss) k c last each i few =
 
 -- THE ENTRY
 
-pub entry-fits : (look : ℕ → Meaning) (ss : List (List ℕ)) (c : Course) → entry_fits (entry_from look c ss) ≡ true
+pub entry-fits : (look : ℕ → Option Meaning) (ss : List (List ℕ)) (c : Course) → entry_fits (entry_from look c ss) ≡ true
 unfolding entry_from
 entry-fits look [] c = refl
 entry-fits look (s ∷ ss) c = go (reading_of s) (entry_from look (step_two look c s) ss) (entry-fits look ss (step_two look c s))
   where
-    low : (v : MaybeValue) → ((w : Value) → v ≡ MaybeValue.Is w → amount_of w < 65536) → entry_fits (entry_by v) ≡ true
-    low (MaybeValue.Is (Value.Absolute a)) l = refl
-    low (MaybeValue.Is (Value.Relocatable a)) l = le-leb a.0 65535 (omega (arith, l (Value.Relocatable a) refl))
-    low MaybeValue.Nothing l = refl
+    low : (v : Option Value) → ((w : Value) → v ≡ Some w → amount_of w < 65536) → entry_fits (entry_by v) ≡ true
+    low (Some (Value.Absolute a)) l = refl
+    low (Some (Value.Relocatable a)) l = le-leb a.0 65535 (omega (arith, l (Value.Relocatable a) refl))
+    low None l = refl
 
-    by : (r : Role) (v : MaybeValue) (rest : Entry) → entry_fits (entry_by v) ≡ true → entry_fits rest ≡ true → entry_fits (role_entry r v rest) ≡ true
+    by : (r : Role) (v : Option Value) (rest : Option Relocatable) → entry_fits (entry_by v) ≡ true → entry_fits rest ≡ true → entry_fits (role_entry r v rest) ≡ true
     by Role.Starts v rest l h = h
     by Role.Equates v rest l h = h
     by Role.SetsCounter v rest l h = h
     by Role.Ends v rest l h = l
     by Role.Advances v rest l h = h
 
-    go : (x : Reading) (rest : Entry) → entry_fits rest ≡ true → entry_fits (reading_entry look c s x rest) ≡ true
+    go : (x : Reading) (rest : Option Relocatable) → entry_fits rest ≡ true → entry_fits (reading_entry look c s x rest) ≡ true
     go Reading.Comment rest h = h
     go Reading.BadName rest h = h
     go (Reading.Statement l) rest h =
@@ -151,7 +150,7 @@ entry-fits look (s ∷ ss) c = go (reading_of s) (entry_from look (step_two look
         by (role_of l.operation) v rest (low v (lone-fits look c.counter (operand_columns s l) l.shape)) h
 
 -- LOADING a book that could be read is never refused by 50
-read_whole : (s : List ℕ) (b : Book) → book_of s ≡ some b → (d : Displacement) (m : List ℕ) → (loading s d m).answer ≡ Broken → ⊥
+read_whole : (s : List ℕ) (b : Book) → book_of s ≡ Some b → (d : Displacement) (m : List ℕ) → (loading s d m).answer ≡ Err Broken → ⊥
 read_whole s b is d m h = let none = (refused_50 s d m).0 h in clash (cc)
 
 -- THE THEOREM, of an accepted source: at most 4,000 cards, a count of names and a book
@@ -170,7 +169,7 @@ module _ (ss : List (List ℕ)) (few : length ss ≤ 4000) (n : ℕ) (b : Book) 
   fair-entry = rw (accepted_source ss n b h).book (entry-fits (look_in ss) ss outset)
 
   -- its bytes are read as the same entry and records, and nothing follows
-  pub readable : book_of (book_bytes b) ≡ some b
+  pub readable : book_of (book_bytes b) ≡ Some b
   readable = round_trip b fair-entry fair-records
 
   -- loading its bytes is loading its records
@@ -179,7 +178,7 @@ module _ (ss : List (List ℕ)) (few : length ss ≤ 4000) (n : ℕ) (b : Book) 
   loaded_as_made d m = ap (λ x. of_book x d m) readable
 
   -- never 50
-  pub never_broken : (d : Displacement) (m : List ℕ) → (loading (book_bytes b) d m).answer ≡ Broken → ⊥
+  pub never_broken : (d : Displacement) (m : List ℕ) → (loading (book_bytes b) d m).answer ≡ Err Broken → ⊥
   never_broken d m = read_whole (book_bytes b) b readable d m
 
 -- a run stored in front is what stands in front
@@ -188,9 +187,9 @@ take-stored m vs h = rw (sets-eq vs m 0 (omega arith)) (take-append_seam vs (dro
 
 -- THE SAME OF THE CALL: where assembling answers with a length and a count of names, so many first bytes of the output are read as the book of the cards
 
-module _ (width : ℕ) (source work out : List ℕ) (bytes names : ℕ) (h : (assembling width source work out).answer ≡ Made bytes names) where
+module _ (width : ℕ) (source work out : List ℕ) (bytes names : ℕ) (h : (assembling width source work out).answer ≡ made_answer bytes names) where
   pub call_readable : (b : Book) × (assembled (cards_of width source) ≡ made names b) × (take bytes (assembling width source work out).out ≡ book_bytes b)
-      × (book_of (take bytes (assembling width source work out).out) ≡ some b)
+      × (book_of (take bytes (assembling width source work out).out) ≡ Some b)
   call_readable =
       let x = made-way width source work out bytes names h in
       let few = cards-few width source x.source_fine in
@@ -198,7 +197,7 @@ module _ (width : ℕ) (source work out : List ℕ) (bytes names : ℕ) (h : (as
       (x.book, x.cards, front, ap book_of front ∙ readable (cards_of width source) few names x.book x.cards)
 
   -- never 50
-  pub call_never_broken : (d : Displacement) (m : List ℕ) → (loading (take bytes (assembling width source work out).out) d m).answer ≡ Broken → ⊥
+  pub call_never_broken : (d : Displacement) (m : List ℕ) → (loading (take bytes (assembling width source work out).out) d m).answer ≡ Err Broken → ⊥
   call_never_broken d m =
       let (b, f, front, is) = call_readable in
       read_whole (take bytes (assembling width source work out).out) b is d m

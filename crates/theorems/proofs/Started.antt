@@ -1,10 +1,8 @@
 -- Up to START: only comment cards stand before it, and it sets the counter and its name and makes nothing.
 use Rattle.std.specs.Prelude.{◌+◌, ◌∷◌, ◌++◌, ◌≡◌}
 use Rattle.std.proofs.Common.{◌∙◌}
-use Rattle.theorems.specs.Logic.{Unit, tt, ℕ, List, [], refl, ap, arith, eqb}
-use Rattle.theorems.specs.Types.{Name, Meaning, Shape, Entry, Line, Reading, Role, Course, clean, State, through}
-use Rattle.values.specs.Tests.{pick}
-use Rattle.values.specs.declared.Value.TheVariants.{Relocatable}
+use Rattle.theorems.specs.Logic.{Unit, tt, ℕ, List, [], refl, ap, arith, Option, Result}
+use Rattle.theorems.specs.Types.{Value, Relocatable, Name, Meaning, Shape, Line, Reading, Role, Course, clean, State, through}
 use Rattle.names.specs.Names.{defined}
 use Rattle.operations.specs.declared.Operation.TheVariants.{Start}
 use Rattle.forms.specs.Shape.{start_or}
@@ -16,7 +14,7 @@ use Rattle.encode.specs.Pieces.{pieces_of}
 use Rattle.lines.specs.Lines.{reading_of, operand_columns}
 use Rattle.passes.specs.declared.Phase.TheVariants.{Before, Within}
 use Rattle.passes.specs.Cards.{counter_after, name_value}
-use Rattle.passes.specs.One.{fresh, missing_no, reading_no, names_after, phase_after, step_one, pass_one}
+use Rattle.passes.specs.One.{fresh, missing_no, with_name, reading_no, names_after, phase_after, step_one, pass_one}
 use Rattle.passes.specs.Two.{outset, step_two, check_two, shape_pieces, line_pieces, card_pieces, card_records, reading_entry, entry_from}
 use Rattle.passes.proofs.Turns.{pass_turn, check_turn}
 use Rattle.passes.proofs.Fine.{Fine, fine, one-zero}
@@ -46,7 +44,7 @@ module _ (rest : List (List ℕ)) where
   comments-one [] c k st a h = h
   comments-one (s ∷ ss) (e, c) k st a h = comments-one ss c (k + 1) st a (rw (comment_one st s e) at (pass_turn k st a s (ss ++ rest) h).1)
 
-  comments-two : (look : ℕ → Meaning) (c : Course) (ss : List (List ℕ)) → AllComments ss → (k : ℕ)
+  comments-two : (look : ℕ → Option Meaning) (c : Course) (ss : List (List ℕ)) → AllComments ss → (k : ℕ)
       → (check_two look k c (ss ++ rest) ≡ clean → check_two look (card_behind k ss) c rest ≡ clean)
       × (card_records look k c (ss ++ rest) ≡ card_records look (card_behind k ss) c rest) × (entry_from look c (ss ++ rest) ≡ entry_from look c rest)
   unfolding card_records entry_from step_two card_pieces
@@ -70,10 +68,10 @@ begins s l e h = rw e (go (role_of l.operation) (fine fresh s l h).started)
 -- THE START CARD
 
 -- R7.4: behind START in pass one, its counter and its name
-abbrev named : ℕ → ℕ → List Name
-named name at = pick (eqb name 0) [] (record { number = name; value = Relocatable (record { 0 = at }); length = 1 } ∷ [])
+abbrev named : Option ℕ → ℕ → List Name
+named name at = with_name name (λ k. record { number = k; value = Value.Relocatable (record { 0 = at }); length = 1 } ∷ []) []
 
-abbrev pub begun_one : ℕ → ℕ → State
+abbrev pub begun_one : Option ℕ → ℕ → State
 begun_one name at = record { counter = at; names = named name at; phase = Within }
 
 -- .. and in pass two
@@ -85,19 +83,20 @@ module _ (s : List ℕ) (l : Line) (reads : reading_of s ≡ Reading.Statement l
   unfolding step_one names_after name_value counter_after defined
   line-one = rw (reads, is)
 
-  line-two : (look : ℕ → Meaning) → step_two look outset s ≡ begun_two (start_or l.shape 0)
+  line-two : (look : ℕ → Option Meaning) → step_two look outset s ≡ begun_two (start_or l.shape 0)
   unfolding step_two counter_after bases_by
   line-two look = rw (reads, is)
 
-  line-pieces : (look : ℕ → Meaning) → card_pieces look outset s ≡ []
+  line-pieces : (look : ℕ → Option Meaning) → card_pieces look outset s ≡ []
   unfolding card_pieces line_pieces operands_of statement_from pieces_of
   line-pieces look = rw reads (go (rw is at (line_has s l reads)))
     where
-      go : {x : Shape} → Has StartTerm x → shape_pieces x (operand_columns s l) (pieces_of (statement_from l.operation (operands_of look 0 (operand_columns s l) x) 0 outset.bases)) ≡ []
+      go : {x : Result Shape ℕ} → Has StartTerm x
+          → shape_pieces x (operand_columns s l) (pieces_of (statement_from l.operation (operands_of look 0 (operand_columns s l) x) 0 outset.bases)) ≡ []
       go Has.fails = refl
       go Has.starts = refl
 
-  line-entry : (look : ℕ → Meaning) (rest : Entry) → reading_entry look outset s (reading_of s) rest ≡ rest
+  line-entry : (look : ℕ → Option Meaning) (rest : Option Relocatable) → reading_entry look outset s (reading_of s) rest ≡ rest
   line-entry look rest = rw (reads, is)
 
   line-again : Usual s → ⊥
@@ -112,13 +111,13 @@ module _ (s : List ℕ) (l : Line) (reads : reading_of s ≡ Reading.Statement l
 
 -- A DECK WITH START AT A PLACE, whose passes come down to the cards behind it
 
-module _ (before : List (List ℕ)) (s : List ℕ) (after : List (List ℕ)) (name at : ℕ) (card : Starting s name at) where
+module _ (before : List (List ℕ)) (s : List ℕ) (after : List (List ℕ)) (name : Option ℕ) (at : ℕ) (card : Starting s name at) where
   start-one : step_one fresh s ≡ begun_one name at
   start-one =
       line-one s card.line card.reads card.operation
       ∙ ap (λ x. begun_one x (start_or card.line.shape 0)) card.name ∙ ap (begun_one name) card.value
 
-  start-two : (look : ℕ → Meaning) → step_two look outset s ≡ begun_two at
+  start-two : (look : ℕ → Option Meaning) → step_two look outset s ≡ begun_two at
   start-two look = line-two s card.line card.reads card.operation look ∙ ap begun_two card.value
 
   start-usual : (xs : List (List ℕ)) → AllUsual (xs ++ s ∷ after) → Usual s
@@ -148,7 +147,7 @@ module _ (before : List (List ℕ)) (s : List ℕ) (after : List (List ℕ)) (na
     pub one-behind : (a : State) → pass_one 1 fresh (before ++ s ∷ after) ≡ through a → pass_one (card_behind 1 before + 1) (begun_one name at) after ≡ through a
     one-behind a p = rw start-one at (pass_turn (card_behind 1 before) fresh a s after (comments-one (s ∷ after) before comments 1 fresh a p)).1
 
-    pub two-behind : (look : ℕ → Meaning)
+    pub two-behind : (look : ℕ → Option Meaning)
         → (check_two look 1 outset (before ++ s ∷ after) ≡ clean → check_two look (card_behind 1 before + 1) (begun_two at) after ≡ clean)
         × (card_records look 1 outset (before ++ s ∷ after) ≡ card_records look (card_behind 1 before + 1) (begun_two at) after)
         × (entry_from look outset (before ++ s ∷ after) ≡ entry_from look (begun_two at) after)

@@ -2,9 +2,8 @@
 -- R15.2: the book's length and the count of names; R17.9: the bytes stored.
 use Rattle.std.specs.Prelude.{◌+◌, ◌<◌, ◌∷◌, ◌≡◌}
 use Rattle.std.proofs.Common.{◌∙◌}
-use Rattle.theorems.specs.Logic.{ℕ, suc, List, [], Bool, true, false, some, refl, ap, arith, length, get_or, length-append, eqb}
-use Rattle.theorems.specs.Types.{Displacement, Name, Entry, Reading, Line, Course, Meaning, Record, Book, Piece, State, through, made}
-use Rattle.values.specs.Tests.{pick}
+use Rattle.theorems.specs.Logic.{ℕ, suc, List, [], refl, ap, arith, length, get_or, length-append, Option, None, Some}
+use Rattle.theorems.specs.Types.{Displacement, Reading, Line, Course, Meaning, Record, Book, Piece, State, through, made, Relocatable, Value}
 use Rattle.names.specs.Names.{defined}
 use Rattle.names.proofs.Names.{defined-length}
 use Rattle.book.specs.Book.{book_of}
@@ -12,11 +11,9 @@ use Rattle.book.specs.Writing.{record_bytes, records_bytes, book_bytes}
 use Rattle.cards.specs.Source.{cards_of}
 use Rattle.lines.specs.Lines.{reading_of}
 use Rattle.encode.specs.Pieces.{text_of}
-use Rattle.load.specs.declared.Loaded.TheVariants.{Stored}
 use Rattle.load.specs.Load.{bytes_stored, loading}
-use Rattle.passes.specs.declared.Assembled.TheVariants.{Made}
 use Rattle.passes.specs.Cards.{name_length}
-use Rattle.passes.specs.One.{names_after, fresh, reading_step, step_one, pass_one, one_no}
+use Rattle.passes.specs.One.{with_name, if_named, names_after, fresh, reading_step, step_one, pass_one, one_no}
 use Rattle.passes.specs.Two.{outset, step_two, card_pieces, with_record, card_records, book_from}
 use Rattle.passes.specs.Assembly.{assembled, assembling}
 use Rattle.passes.proofs.Turns.{pass_turn}
@@ -27,6 +24,8 @@ use Rattle.theorems.proofs.Readable.{accepted_source}
 use Rattle.passes.proofs.Fine.{Fine}
 use Rattle.book.proofs.Written.{book-length}
 use Rattle.theorems.specs.Grow.{behind, behind_two, look_in}
+use Rattle.theorems.specs.Accepted.{made_answer}
+use Rattle.theorems.specs.Judged.{stored_answer}
 use Rattle.theorems.proofs.Accepted.{let_through, pass-ended}
 use Rattle.theorems.proofs.Outcomes.{made-way, Load, load}
 
@@ -36,14 +35,15 @@ step_count : (st : State) (s : List ℕ) → one_no st s ≡ 0 → length (step_
 unfolding step_one defines names_after
 step_count st s h = let_through st s h (λ x. length (reading_step st s x).names ≡ length st.names + reading_defines x) (omega arith) line
   where
-    named : (b : Bool) (x : Name) → length (pick b st.names (defined x st.names)) ≡ length st.names + pick b 0 1
-    named true x = omega arith
-    named false x = defined-length x st.names
+    named : (name : Option ℕ) (v : Value) (size : ℕ)
+        → length (with_name name (λ k. defined (record { number = k; value = v; length = size }) st.names) st.names) ≡ length st.names + if_named name (λ k. 1)
+    named (Some name) v size = defined-length (record { number = name; value = v; length = size }) st.names
+    named None v size = omega arith
 
-    line : (l : Line) → reading_of s ≡ Reading.Statement l → Fine st s l → length (names_after st s l) ≡ length st.names + pick (eqb l.name 0) 0 1
+    line : (l : Line) → reading_of s ≡ Reading.Statement l → Fine st s l → length (names_after st s l) ≡ length st.names + if_named l.name (λ k. 1)
     line l q f =
         let (v, is) = line-value st s l q f in
-        rw is (named (eqb l.name 0) (record { number = l.name; value = v; length = name_length l.operation l.shape }))
+        rw is (named l.name v (name_length l.operation l.shape))
 
 pass-count : (ss : List (List ℕ)) (k : ℕ) (st a : State) → pass_one k st ss ≡ through a → length a.names ≡ length st.names + total defines ss
 unfolding total
@@ -56,7 +56,8 @@ pass-count (s ∷ ss) k st a h =
 
 -- THE BYTES OF THE RECORDS
 
-records-bytes : (look : ℕ → Meaning) (ss : List (List ℕ)) (k : ℕ) (c : Course) → ((i : ℕ) → i < length ss → length (text_of (card_pieces look (behind_two look i c ss) (get_or ss i []))) ≡ makes (get_or ss i []))
+records-bytes : (look : ℕ → Option Meaning) (ss : List (List ℕ)) (k : ℕ) (c : Course)
+    → ((i : ℕ) → i < length ss → length (text_of (card_pieces look (behind_two look i c ss) (get_or ss i []))) ≡ makes (get_or ss i []))
     → total text_length (card_records look k c ss) ≡ total makes ss
 unfolding card_records total text_of behind
 records-bytes look [] k c each = refl
@@ -103,16 +104,15 @@ module _ (ss : List (List ℕ)) (n : ℕ) (b : Book) (h : assembled ss ≡ made 
       ap (λ (x : Book). total text_length x.records) x.book ∙ records-bytes (look_in ss) ss 1 outset (λ k i. (x.sized k i).1)
 
 -- the bytes stored by an accepted load are the sum of the records' text lengths
-pub bytes_of_load : (s : List ℕ) (d : Displacement) (m : List ℕ) (bytes : ℕ) (at : Entry) → (loading s d m).answer ≡ Stored bytes at
-    → (b : Book) × (book_of s ≡ some b) × (bytes ≡ total text_length b.records)
+pub bytes_of_load : (s : List ℕ) (d : Displacement) (m : List ℕ) (bytes : ℕ) (at : Option Relocatable) → (loading s d m).answer ≡ stored_answer bytes at
+    → (b : Book) × (book_of s ≡ Some b) × (bytes ≡ total text_length b.records)
 bytes_of_load s d m bytes at h = go (rw h at (load s d m))
   where
-    go : {bytes : ℕ} {at : Entry} {x : List ℕ} → Load s d m (Stored bytes at) x → (b : Book) × (book_of s ≡ some b) × (bytes ≡ total text_length b.records)
+    go : {bytes : ℕ} {at : Option Relocatable} {x : List ℕ} → Load s d m (stored_answer bytes at) x → (b : Book) × (book_of s ≡ Some b) × (bytes ≡ total text_length b.records)
     go (Load.is_stored b f i u o at x l) = (b, f, stored_sum b.records)
-    go (Load.is_refused x) = elim x [ ]
 
 -- of the call: the answer's two numbers
-pub counts_of_call : (width : ℕ) (source work out : List ℕ) (bytes names : ℕ) → (assembling width source work out).answer ≡ Made bytes names
+pub counts_of_call : (width : ℕ) (source work out : List ℕ) (bytes names : ℕ) → (assembling width source work out).answer ≡ made_answer bytes names
     → (b : Book) × (assembled (cards_of width source) ≡ made names b) × (bytes ≡ 8 + total record_length b.records) × (names ≡ total defines (cards_of width source))
 counts_of_call width source work out bytes names h =
     let x = made-way width source work out bytes names h in

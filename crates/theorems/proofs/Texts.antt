@@ -1,11 +1,11 @@
 -- How long a card's text is, that no value in it is over 65535, and that its fields lie inside it.
 use Rattle.std.specs.Prelude.{◌+◌, ◌-◌, ◌*◌, ◌/◌, ◌%◌, ◌≤◌, ◌<◌, ◌∷◌, ◌++◌, ◌≡◌}
 use Rattle.std.proofs.Common.{◌∙◌}
-use Rattle.theorems.specs.Logic.{tt, ℕ, zero, suc, List, [], map, Bool, true, false, refl, sym, ap, arith, length, length-append, leb, eqb, eqb-true, eqb-false}
-use Rattle.theorems.specs.Types.{Value, Wanted, Meaning, Evaluated, Operation, Use, Pattern, DataType, DataCard, Data, Item, Address, Shape, Operands, Base, Bases, Operand, Placed, Code, Course, Piece, plain, value, State}
+use Rattle.theorems.specs.Logic.{tt, ℕ, zero, suc, List, [], map, Bool, true, false, refl, sym, ap, arith, length, length-append, leb, eqb, eqb-true, eqb-false, Option, None, Some, Result, Ok, Err}
+use Rattle.theorems.specs.Types.{Value, Wanted, Meaning, Operation, Use, Pattern, DataType, DataCard, Data, Address, Shape, Operands, Bases, Operand, Course, Piece, plain, value, State, Fault, Refusal}
 use Rattle.values.specs.Tests.{pick, both}
 use Rattle.values.specs.Values.{amount_of}
-use Rattle.values.proofs.Refusals.{lower-zero}
+use Rattle.values.proofs.Numbers.{lower-zero}
 use Rattle.expressions.specs.Form.{expression_at}
 use Rattle.expressions.specs.Value.{evaluated, refusal_for}
 use Rattle.expressions.proofs.Laws.{accepted, accepted-absolute, value-fits}
@@ -35,6 +35,7 @@ use Rattle.theorems.specs.Readable.{data_makes, text_size, reading_makes, makes}
 use Rattle.theorems.proofs.Lines.{Has, line_has, jumps, Fixed, row_of}
 use Rattle.theorems.proofs.RaisedText.{Low}
 use Rattle.theorems.proofs.Accepted.{let_through}
+use Rattle.values.specs.declared.refusals.Refusal.TheVariants.{NoBase, OutOfReach}
 
 -- PIECES
 
@@ -91,15 +92,15 @@ fields_fit_lem (value (Value.Relocatable a) ∷ ps) at least size h k =
 -- PARTS OF A STATEMENT that are not refused
 
 -- R9.6: two bytes where direct, one where indexed
-abbrev IsOperand : ℕ → Placed → Type 0
-IsOperand n p = (x : Operand) × (p ≡ Placed.At x) × Sized n (operand_pieces x)
+abbrev IsOperand : ℕ → Result (Option Operand) Refusal → Type 0
+IsOperand n p = (x : Operand) × (p ≡ Ok (Some x)) × Sized n (operand_pieces x)
 
 away_sized : (v : Value) (r from amount : ℕ) → placed_no (away_from v r from amount) ≡ 0 → IsOperand 1 (away_from v r from amount)
 unfolding away_from text_of
 away_sized v r from amount = go (both (leb from amount) (leb (amount - from) 255))
   where
-    go : (b : Bool) → placed_no (pick b (Placed.At (Operand.Indexed v r (amount - from))) Placed.OutOfReach) ≡ 0
-        → IsOperand 1 (pick b (Placed.At (Operand.Indexed v r (amount - from))) Placed.OutOfReach)
+    go : (b : Bool) → placed_no (pick b (Ok (Some (Operand.Indexed v r (amount - from)))) (Err OutOfReach)) ≡ 0
+        → IsOperand 1 (pick b (Ok (Some (Operand.Indexed v r (amount - from)))) (Err OutOfReach))
     go true h = (Operand.Indexed v r (amount - from), refl, (tt, refl))
     go false h = absurd (omega arith)
 
@@ -107,18 +108,19 @@ indexed-sized : (bases : Bases) (v : Value) (r : ℕ) → placed_no (indexed_by 
 unfolding indexed_by displaced_by
 indexed-sized bases v r = go (is_register r) v
   where
-    under : (v : Value) (amount : ℕ) (b : Base) → placed_no (under_base v r amount b) ≡ 0 → IsOperand 1 (under_base v r amount b)
-    under v amount Base.Idle h = absurd (omega arith)
-    under v amount (Base.Of (Value.Absolute b)) h = absurd (omega arith)
-    under v amount (Base.Of (Value.Relocatable b)) h = away_sized v r b.0 amount h
+    under : (v : Value) (amount : ℕ) (b : Option Value) → placed_no (under_base v r amount b) ≡ 0 → IsOperand 1 (under_base v r amount b)
+    under v amount None h = absurd (omega arith)
+    under v amount (Some (Value.Absolute b)) h = absurd (omega arith)
+    under v amount (Some (Value.Relocatable b)) h = away_sized v r b.0 amount h
 
-    go : (b : Bool) (v : Value) → placed_no (pick b (displaced_by v r (base_of bases r)) Placed.NoBase) ≡ 0 → IsOperand 1 (pick b (displaced_by v r (base_of bases r)) Placed.NoBase)
+    go : (b : Bool) (v : Value) → placed_no (pick b (displaced_by v r (base_of bases r)) (Err NoBase)) ≡ 0 → IsOperand 1 (pick b (displaced_by v r (base_of bases r)) (Err NoBase))
     go true (Value.Absolute a) h = away_sized (Value.Absolute a) r 0 a.0 h
     go true (Value.Relocatable a) h = under (Value.Relocatable a) a.0 (base_of bases r) h
     go false v h = absurd (omega arith)
 
 -- a jump has three bytes; no other card makes one of its expression
-jump-sized : (op : Operation) (c : Code) (next : ℕ) (e last : Evaluated) → code_no c ≡ 0 → refusal_for (first_wanted op) e ≡ 0 → use_no (use_of op) next e last ≡ 0
+jump-sized : (op : Operation) (c : Result (Option ℕ) Refusal) (next : ℕ) (e last : Result Value Fault)
+    → code_no c ≡ 0 → refusal_for (first_wanted op) e ≡ 0 → use_no (use_of op) next e last ≡ 0
     → Sized (pick (jumps (use_of op)) 3 0) (pieces_of (jump_of (use_of op) c (jump_to next e)))
 unfolding pieces_of text_of
 jump-sized op c next e last h i k = go (use_of op) refl k
@@ -129,11 +131,12 @@ jump-sized op c next e last h i k = go (use_of op) refl k
     go Use.Nothing u k = (tt, refl)
 
 -- an operation byte, Q, and the operands
-one-sized : (op : Operation) (c : Code) (p : Placed) (n : ℕ) → code_no c ≡ 0 → IsOperand n p → Sized (2 + n) (pieces_of (one_of op c p))
+one-sized : (op : Operation) (c : Result (Option ℕ) Refusal) (p : Result (Option Operand) Refusal) (n : ℕ) → code_no c ≡ 0 → IsOperand n p → Sized (2 + n) (pieces_of (one_of op c p))
 unfolding pieces_of text_of
 one-sized op c p n h (x, is, (low, size)) = rw ((code-there c h).is, is) (low, omega arith)
 
-two_sized : (op : Operation) (c : Code) (p q : Placed) (m n : ℕ) → code_no c ≡ 0 → IsOperand m p → IsOperand n q → Sized (2 + m + n) (pieces_of (two_of op c p q))
+two_sized : (op : Operation) (c : Result (Option ℕ) Refusal) (p q : Result (Option Operand) Refusal) (m n : ℕ)
+    → code_no c ≡ 0 → IsOperand m p → IsOperand n q → Sized (2 + m + n) (pieces_of (two_of op c p q))
 unfolding pieces_of text_of
 two_sized op c p q m n h (x, is, first) (y, is', second) =
     let (low, size) = sized_append m n (operand_pieces x) (operand_pieces y) first second in
@@ -141,8 +144,8 @@ two_sized op c p q m n h (x, is, first) (y, is', second) =
 
 -- THE TEXT OF A LINE that neither pass refuses
 
-module _ (look : ℕ → Meaning) (here : ℕ) (bases : Bases) (o : List ℕ) where
-  abbrev expression : ℕ → Evaluated
+module _ (look : ℕ → Option Meaning) (here : ℕ) (bases : Bases) (o : List ℕ) where
+  abbrev expression : ℕ → Result Value Fault
   expression p = evaluated look here (expression_at o p)
 
   operand-sized : (a : Address) → address_no (address_of look here o a) ≡ 0 → placed_no (operand_of bases (address_of look here o a)) ≡ 0
@@ -154,19 +157,20 @@ module _ (look : ℕ → Meaning) (here : ℕ) (bases : Bases) (o : List ℕ) wh
       let low = value-fits look here (expression_at o a.at) x.value x.good in
       rw x.good (go x.value low a.register (lower-zero _ _ q).1 (rw x.good at k))
     where
-      go : (v : Value) → amount_of v < 65536 → (i : Item) → item_no (item_of look here o i) ≡ 0 → placed_no (by_register bases v (item_of look here o i)) ≡ 0
+      go : (v : Value) → amount_of v < 65536 → (i : Option ℕ) → item_no (item_of look here o i) ≡ 0 → placed_no (by_register bases v (item_of look here o i)) ≡ 0
           → IsOperand (address_size i) (by_register bases v (item_of look here o i))
-      go v low Item.Absent h k = (Operand.Direct v, refl, ((low, tt), refl))
-      go v low (Item.At p) h k =
+      go v low None h k = (Operand.Direct v, refl, ((low, tt), refl))
+      go v low (Some p) h k =
           let y = accepted-absolute (expression p) h in
           let k' = rw y.good at k in
           rw y.good (indexed-sized bases v y.amount k')
 
   module _ (op : Operation) where
-    abbrev pieces : Shape → List Piece
+    abbrev pieces : Result Shape ℕ → List Piece
     pieces x = shape_pieces x o (pieces_of (statement_from op (operands_of look here o x) here bases))
 
-    data_sized : (d : Data) → data_no d ≡ 0 → expressions_no op (operands_of look here o (Shape.Data d)) ≡ 0 → Sized (data_makes d.card (data_size d)) (pieces (Shape.Data d))
+    data_sized : (d : Data) → data_no d ≡ 0 → expressions_no op (operands_of look here o (Ok (Shape.Data d))) ≡ 0
+        → Sized (data_makes d.card (data_size d)) (pieces (Ok (Shape.Data d)))
     unfolding operands_of statement_from expressions_no pieces_of data_size text_of
     data_sized d n h = go d.card d.kind refl n h
       where
@@ -190,7 +194,7 @@ module _ (look : ℕ → Meaning) (here : ℕ) (bases : Bases) (o : List ℕ) wh
             rw x.good (copied-low d.copies (address_pieces d.length x.value) low, copied-size d.copies (address_pieces d.length x.value) ∙ ap (λ (n : ℕ). d.copies * n) size)
 
     -- the text of a card has the bytes of its form; that of DS none
-    text-sized : (p : Pattern) (x : Shape) → Has p x → Fixed p (use_of op) (fixed_size op) → of_data x data_no 0 ≡ 0
+    text-sized : (p : Pattern) (x : Result Shape ℕ) → Has p x → Fixed p (use_of op) (fixed_size op) → of_data x data_no 0 ≡ 0
         → expressions_no op (operands_of look here o x) ≡ 0 → code_no (code_of op (operands_of look here o x)) ≡ 0 → places_no (use_of op) (operands_of look here o x) (next_of op here) bases ≡ 0
         → Sized (text_size op x) (pieces x)
     unfolding operands_of statement_from expressions_no code_of places_no pieces_of text_of
@@ -202,7 +206,8 @@ module _ (look : ℕ → Meaning) (here : ℕ) (bases : Bases) (o : List ℕ) wh
     text-sized p x (Has.constant {d}) t n e c k = data_sized d n e
     text-sized p x (Has.reserve {d}) t n e c k = data_sized d n e
     text-sized p x (Has.pair {q}) t n e c k =
-        resized (pieces (Shape.Pair q)) (sym t) (jump-sized op (code_of op (Operands.Pair (expression 0) (expression q))) (next_of op here) (expression 0) (expression q) c (lower-zero _ _ e).0 k)
+        resized (pieces (Ok (Shape.Pair q))) (sym t)
+        (jump-sized op (code_of op (Operands.Pair (expression 0) (expression q))) (next_of op here) (expression 0) (expression q) c (lower-zero _ _ e).0 k)
     text-sized p x (Has.two {a = a} {b = b}) t n e c k =
         let (e₀, e₁) = lower-zero _ _ e in
         let (k₀, k₁) = lower-zero _ _ k in
@@ -211,10 +216,11 @@ module _ (look : ℕ → Meaning) (here : ℕ) (bases : Bases) (o : List ℕ) wh
         rw t (one-sized op (code_of op (Operands.AddressAndCode (address_of look here o a) (expression q))) _ _ c (operand-sized a (lower-zero _ _ e).0 k))
     text-sized p x (Has.only {a}) t n e c k = rw t (one-sized op (code_of op (Operands.LoneAddress (address_of look here o a))) _ _ c (operand-sized a e k))
     text-sized p x Has.target t n e c k =
-        resized (pieces Shape.Target) (ap (λ b. pick b 3 0) t.0 ∙ sym t.1) (jump-sized op (code_of op (Operands.Lone (expression 0))) (next_of op here) (expression 0) (expression 0) c e k)
+        resized (pieces (Ok Shape.Target)) (ap (λ b. pick b 3 0) t.0 ∙ sym t.1)
+        (jump-sized op (code_of op (Operands.Lone (expression 0))) (next_of op here) (expression 0) (expression 0) c e k)
 
 -- the text of a card that neither pass refuses has the bytes that the card makes
-pub card-sized : (st : State) (s : List ℕ) → one_no st s ≡ 0 → (look : ℕ → Meaning) (c : Course) → two_no look c s ≡ 0 → Sized (makes s) (card_pieces look c s)
+pub card-sized : (st : State) (s : List ℕ) → one_no st s ≡ 0 → (look : ℕ → Option Meaning) (c : Course) → two_no look c s ≡ 0 → Sized (makes s) (card_pieces look c s)
 unfolding card_pieces line_pieces makes text_of two_no
 card-sized st s h look c k =
     let_through st s h (λ x. reading_two_no look c s x ≡ 0 → Sized (reading_makes x) (reading_pieces look c s x)) (λ k. (tt, refl))

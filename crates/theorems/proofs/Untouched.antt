@@ -7,7 +7,7 @@ use Rattle.names.specs.Table.{zeroed}
 use Rattle.book.specs.Book.{records_from, header_ok, entry_at, with_entry, book_of}
 use Rattle.book.specs.Writing.{book_bytes, fair_all}
 use Rattle.cards.specs.Source.{cards_of}
-use Rattle.passes.specs.Assembly.{work_size, Outcome, assembling}
+use Rattle.passes.specs.Assembly.{work_size, Outcome, refusal, assembling}
 use Rattle.fields.specs.Fields.{moved_text}
 use Rattle.fields.proofs.Laws.{moved_length}
 use Rattle.load.specs.Load.{Outcome as LoadOutcome, stored, stored_all, bytes_stored, first_card, outside, room_in, loading}
@@ -17,8 +17,10 @@ use Rattle.print.proofs.Laws.{header_length, no_room}
 use Rattle.book.proofs.Written.{fair-first, read-fair}
 use Rattle.std.specs.Prelude.{◌+◌, ◌≤◌, ◌<◌, ◌∷◌, ◌≡◌, ◌⊎◌, ◌++◌}
 use Rattle.std.proofs.Common.{◌∙◌}
-use Rattle.theorems.specs.Logic.{ℕ, zero, suc, List, [], refl, ap, inl, inr, arith, length, get_or, drop, set, length-set, sets, get_or-set_same, get_or-set_other, drop-set-lt, List-as-Memᴰ, List·Memᴰ·head, List·Memᴰ·tail, Bool, true, false, none, some, replicate, length-append, length-drop, length-replicate, get_or-replicate, List·getD-append, leb, le-ltb, lt-ltb, leb-true, length-sets, drop_at}
-use Rattle.theorems.specs.Types.{Displacement, Entry, Assembled, Loaded, Record, Book}
+use Rattle.theorems.specs.Logic.{ℕ, zero, suc, List, [], refl, ap, inl, inr, arith, length, get_or, drop, set, length-set, sets, get_or-set_same, get_or-set_other, drop-set-lt, List-as-Memᴰ, List·Memᴰ·head, List·Memᴰ·tail, Bool, true, false, replicate, length-append, length-drop, length-replicate, get_or-replicate, List·getD-append, leb, le-ltb, lt-ltb, leb-true, length-sets, drop_at, Option, None, Some, Result}
+use Rattle.theorems.specs.Types.{Displacement, Stored, LoadError, Assembled, Refused, Record, Book, Relocatable}
+use Rattle.theorems.specs.Accepted.{made_answer}
+use Rattle.theorems.specs.Judged.{stored_answer}
 use Rattle.theorems.proofs.Numbers.{cards-number, cards_range}
 use Rattle.theorems.proofs.Outcomes.{Way, way, made-way, out-after, work-after, Load, load, storage-after}
 
@@ -66,16 +68,16 @@ module _ (width : ℕ) (source work out : List ℕ) where
   after = assembling width source work out
 
   -- the whole output is unchanged on a refusal
-  pub refused_output : (number card : ℕ) → after.answer ≡ Assembled.Refused number card → after.out ≡ out
+  pub refused_output : (number card : ℕ) → after.answer ≡ refusal number card → after.out ≡ out
   refused_output number card h = go (rw h at (way width source work out))
     where
-      go : {n k : ℕ} {w o : List ℕ} → Way width source work out (Assembled.Refused n k) w o → o ≡ out
+      go : {n k : ℕ} {w o : List ℕ} → Way width source work out (refusal n k) w o → o ≡ out
       go (Way.at_once n l u) = refl
       go (Way.by_cards w f n k e) = refl
       go (Way.too_long_book w) = refl
 
   -- past the book it is unchanged
-  pub past_the_book : (bytes names : ℕ) → after.answer ≡ Assembled.Made bytes names → drop bytes after.out ≡ drop bytes out
+  pub past_the_book : (bytes names : ℕ) → after.answer ≡ made_answer bytes names → drop bytes after.out ≡ drop bytes out
   past_the_book bytes names h =
       let x = made-way width source work out bytes names h in
       ap (drop bytes) x.written ∙ drop-sets out 0 (book_bytes x.book) bytes (omega arith)
@@ -85,19 +87,19 @@ module _ (width : ℕ) (source work out : List ℕ) where
   output_length = out-after width source work out (λ o. length o ≡ length out) refl (length-sets out 0)
 
   -- R15.6: 1, 2 and 3 leave the work area as it was
-  pub early-work : (number card : ℕ) → after.answer ≡ Assembled.Refused number card → number ≤ 3 → after.work ≡ work
+  pub early-work : (number card : ℕ) → after.answer ≡ refusal number card → number ≤ 3 → after.work ≡ work
   early-work number card h low = go (rw h at (way width source work out)) low
     where
-      go : {n k : ℕ} {w o : List ℕ} → Way width source work out (Assembled.Refused n k) w o → n ≤ 3 → w ≡ work
+      go : {n k : ℕ} {w o : List ℕ} → Way width source work out (refusal n k) w o → n ≤ 3 → w ≡ work
       go (Way.at_once n l u) low = refl
       go (Way.by_cards w f n k e) low = let high = (cards_range (cards_of width source) n k e).0 in absurd (omega arith)
       go (Way.too_long_book w) low = absurd (omega arith)
 
   -- after every other answer its first 8,192 bytes are zero
-  pub late_work : ((number card : ℕ) → after.answer ≡ Assembled.Refused number card → 3 < number) → (i x : ℕ) → i < work_size → get_or after.work i x ≡ 0
+  pub late_work : ((number card : ℕ) → after.answer ≡ refusal number card → 3 < number) → (i x : ℕ) → i < work_size → get_or after.work i x ≡ 0
   late_work late i x h = go late (way width source work out)
     where
-      go : {a : Assembled} {w o : List ℕ} → ((number card : ℕ) → a ≡ Assembled.Refused number card → 3 < number) → Way width source work out a w o → get_or w i x ≡ 0
+      go : {a : Result Assembled Refused} {w o : List ℕ} → ((number card : ℕ) → a ≡ refusal number card → 3 < number) → Way width source work out a w o → get_or w i x ≡ 0
       go late (Way.at_once n l u) = let high = late n 0 refl in absurd (omega arith)
       go late (Way.by_cards w f n k e) = zeroed-front work_size work i x h
       go late (Way.too_long_book w) = zeroed-front work_size work i x h
@@ -116,14 +118,14 @@ module _ (width : ℕ) (source work out : List ℕ) where
       ((1 ≤ number) × (number ≤ 3) × (card ≡ 0)) ⊎ (((9 ≤ number) × (number ≤ 24) × (1 ≤ card) × (card ≤ length (cards_of width source)))
       ⊎ (((number ≡ 9) × (card ≡ 0)) ⊎ ((number ≡ 30) × (card ≡ 0))))
 
-  pub refusal_numbers : (number card : ℕ) → after.answer ≡ Assembled.Refused number card → Refusal number card
+  pub refusal_numbers : (number card : ℕ) → after.answer ≡ refusal number card → Refusal number card
   refusal_numbers number card h = go (rw h at (way width source work out))
     where
       cards : (n k : ℕ) → ((9 ≤ n) × (n ≤ 24) × (1 ≤ k) × (k ≤ length (cards_of width source))) ⊎ ((n ≡ 9) × (k ≡ 0)) → Refusal n k
       cards n k (inl x) = inr (inl x)
       cards n k (inr x) = inr (inr (inl x))
 
-      go : {n k : ℕ} {w o : List ℕ} → Way width source work out (Assembled.Refused n k) w o → Refusal n k
+      go : {n k : ℕ} {w o : List ℕ} → Way width source work out (refusal n k) w o → Refusal n k
       go (Way.at_once n l u) = inl (l, u, refl)
       go (Way.by_cards w f n k e) = cards n k (cards-number (cards_of width source) n k e)
       go (Way.too_long_book w) = inr (inr (inr (refl, refl)))
@@ -176,10 +178,10 @@ module _ (s : List ℕ) (d : Displacement) (m : List ℕ) where
   loaded = loading s d m
 
   -- storage is unchanged on a refusal, 50, 51 and 52 alike
-  pub refused-storage : ((bytes : ℕ) (at : Entry) → loaded.answer ≡ Loaded.Stored bytes at → ⊥) → loaded.storage ≡ m
+  pub refused-storage : ((bytes : ℕ) (at : Option Relocatable) → loaded.answer ≡ stored_answer bytes at → ⊥) → loaded.storage ≡ m
   refused-storage no-load = go no-load (load s d m)
     where
-      go : {a : Loaded} {x : List ℕ} → ((bytes : ℕ) (at : Entry) → a ≡ Loaded.Stored bytes at → ⊥) → Load s d m a x → x ≡ m
+      go : {a : Result Stored LoadError} {x : List ℕ} → ((bytes : ℕ) (at : Option Relocatable) → a ≡ stored_answer bytes at → ⊥) → Load s d m a x → x ≡ m
       go none-stored (Load.is_refused w) = refl
       go none-stored (Load.is_stored b f i u o at x l) = absurd (none-stored (bytes_stored b.records) at refl)
 
@@ -190,7 +192,7 @@ module _ (s : List ℕ) (d : Displacement) (m : List ℕ) where
       (λ b f i. stored_beyond d (room_in m) b.records m 0 (read-fair s b f) i 65536 (omega arith))
 
   -- bytes outside the place of every record of the book never change
-  pub storage-other : (i : ℕ) → ((b : Book) → book_of s ≡ some b → OutsideAll d i b.records) → get_or loaded.storage i 0 ≡ get_or m i 0
+  pub storage-other : (i : ℕ) → ((b : Book) → book_of s ≡ Some b → OutsideAll d i b.records) → get_or loaded.storage i 0 ≡ get_or m i 0
   storage-other i out = storage-after s d m (λ x. get_or x i 0 ≡ get_or m i 0) refl (λ b f j. stored_other d b.records m i (out b f))
 
   -- storage keeps its length
@@ -200,7 +202,7 @@ module _ (s : List ℕ) (d : Displacement) (m : List ℕ) where
 -- PRINTING
 
 -- R18.2: REFUSED 50 alone
-pub printed_50 : (s : List ℕ) → length s ≤ 65536 → book_of s ≡ none → printed s ≡ refused50
+pub printed_50 : (s : List ℕ) → length s ≤ 65536 → book_of s ≡ None → printed s ≡ refused50
 unfolding printed
 printed_50 s h e = rw (le-ltb 65536 (length s) h) (ap (lines_of s) e)
 
@@ -210,19 +212,19 @@ unfolding printed
 printed_57 s h = rw (lt-ltb 65536 (length s) h)
 
 -- a book's lines: the header's and one for each record
-pub printed-book : (s : List ℕ) (b : Book) → length s ≤ 65536 → book_of s ≡ some b → printed s ≡ header_line s ++ record_lines b.records
+pub printed-book : (s : List ℕ) (b : Book) → length s ≤ 65536 → book_of s ≡ Some b → printed s ≡ header_line s ++ record_lines b.records
 unfolding printed
 printed-book s b h e = rw (le-ltb 65536 (length s) h) (ap (lines_of s) e)
 
 -- they are longer than a refusal, so that what is printed tells whether the book was refused
-pub told-apart : (s : List ℕ) (b : Book) → length s ≤ 65536 → book_of s ≡ some b → length refused50 < length (printed s)
+pub told-apart : (s : List ℕ) (b : Book) → length s ≤ 65536 → book_of s ≡ Some b → length refused50 < length (printed s)
 unfolding book_of header_ok
 told-apart s b h e =
     let l = header_length s (go (header_ok s) refl e) in
     let n = length-append (header_line s) (record_lines b.records) in
     rw (printed-book s b h e) (omega arith)
   where
-    go : (x : Bool) → header_ok s ≡ x → pick x (with_entry (entry_at s) (records_from (length s) s 8 0)) none ≡ some b → 8 ≤ length s
+    go : (x : Bool) → header_ok s ≡ x → pick x (with_entry (entry_at s) (records_from (length s) s 8 0)) None ≡ Some b → 8 ≤ length s
     go true f e = leb-true 8 (length s) (both_true (leb 8 (length s)) _ f).0
     go false f e = clash (cc)
 

@@ -1,8 +1,11 @@
 -- R17.4 to R17.8: how the records of a book are judged before a load: 51 and 52 by the first record that fails, 52 with card 0 for the entry.
 use Rattle.std.specs.Prelude.{◌+◌, ◌∷◌, ◌++◌, ◌≡◌}
-use Rattle.theorems.specs.Logic.{ℕ, List, List-as-Memᴰ, Bool, true, false, ltb}
-use Rattle.theorems.specs.Types.{Entry, Record}
-use Rattle.book.specs.declared.Entry.TheVariants.{Absent, At}
+use Rattle.theorems.specs.Logic.{ℕ, List, List-as-Memᴰ, Bool, true, false, ltb, Option, None, Some, Result, Ok}
+use Rattle.theorems.specs.Types.{Record, Relocatable, Stored, LoadError}
+
+-- the answer of an accepted load: the bytes stored, the entry
+abbrev pub stored_answer : ℕ → Option Relocatable → Result Stored LoadError
+stored_answer bytes entry = Ok (record { bytes = bytes; entry = entry })
 
 -- no record fails a test
 abbrev pub NoneFails : (Record → Bool) → List Record → Type 0
@@ -19,6 +22,6 @@ pub record FirstFails (fails : Record → Bool) (rs : List Record) (card : ℕ) 
   pub others : NoneFails fails before
 
 -- the entry plus a displacement is over 65535
-abbrev pub entry_over : ℕ → Entry → Bool
-entry_over d Absent = false
-entry_over d (At e) = ltb 65535 (e.0 + d)
+abbrev pub entry_over : ℕ → Option Relocatable → Bool
+entry_over d None = false
+entry_over d (Some e) = ltb 65535 (e.0 + d)

@@ -3,7 +3,7 @@ pub use Prim.{Unit, tt}
 pub use Rattle.std.specs.Prelude.{suc, zero, ℕ, refl, Bool, false, not, true, eqb, leb, ltb, drop, get_or, length, replicate, set, take}
 pub use Rattle.std.proofs.Common.{ap, subst, sym, inl, inr, add-zero, mul-add, mul-one, mul-zero, arith, length-append, length-drop, length-set, drop_at, drop-set-lt, get_or-set_other, get_or-set_same, eqb-true, le-leb, le-ltb, leb-false, leb-true, lt-ltb, ltb-false, ltb-true}
 pub use Rattle.std.proofs.Math.Path.{fun_ext}
-pub use Rattle.std.proofs.Math.Option.{Option, none, some}
+pub use Rattle.std.specs.Prelude.{Option, None, Some, Result, Ok, Err}
 pub use mathlib.Core.List.Memᴰ.{cases_cons as List·Memᴰ·cases-cons}
 pub use mathlib.Core.List.Memᴰ.{cast as Memᴰ·cast}
 pub use mathlib.Core.List.Memᴰ.{map as Memᴰ·map}

@@ -1,27 +1,23 @@
 -- Operands, bases, pieces and the states of both passes raised by d: everything relocatable is d higher, all else stays.
 use Rattle.std.specs.Prelude.{◌+◌}
-use Rattle.theorems.specs.Logic.{ℕ, map}
-use Rattle.theorems.specs.Types.{MaybeValue, Evaluated, EvaluatedItem, EvaluatedAddress, Operands, Base, Bases, Operand, Placed, Course, Piece, plain, value, State}
+use Rattle.theorems.specs.Logic.{ℕ, map, Option, None, Some, Result, Ok, Err}
+use Rattle.theorems.specs.Types.{EvaluatedAddress, Operands, Bases, Operand, Course, Piece, plain, value, State, Value, Fault, Refusal}
 use Rattle.names.specs.Raised.{raised_value, raised_name}
-use Rattle.expressions.specs.declared.Evaluated.TheVariants.{Good, Malformed, Undefined, WrongKind, OutOfRange}
 
 module _ (d : ℕ) where
   -- OPERANDS
 
-  abbrev pub raised_maybe : MaybeValue → MaybeValue
-  raised_maybe (MaybeValue.Is v) = MaybeValue.Is (raised_value d v)
-  raised_maybe MaybeValue.Nothing = MaybeValue.Nothing
+  abbrev pub raised_maybe : Option Value → Option Value
+  raised_maybe (Some v) = Some (raised_value d v)
+  raised_maybe None = None
 
-  abbrev pub raised_evaluated : Evaluated → Evaluated
-  raised_evaluated (Good v) = Good (raised_value d v)
-  raised_evaluated Malformed = Malformed
-  raised_evaluated Undefined = Undefined
-  raised_evaluated WrongKind = WrongKind
-  raised_evaluated (OutOfRange k) = OutOfRange k
+  abbrev pub raised_evaluated : Result Value Fault → Result Value Fault
+  raised_evaluated (Ok v) = Ok (raised_value d v)
+  raised_evaluated (Err f) = Err f
 
-  abbrev pub raised_item : EvaluatedItem → EvaluatedItem
-  raised_item EvaluatedItem.Absent = EvaluatedItem.Absent
-  raised_item (EvaluatedItem.Of e) = EvaluatedItem.Of (raised_evaluated e)
+  abbrev pub raised_item : Option (Result Value Fault) → Option (Result Value Fault)
+  raised_item None = None
+  raised_item (Some e) = Some (raised_evaluated e)
 
   abbrev pub raised_address : EvaluatedAddress → EvaluatedAddress
   raised_address a = record {
@@ -38,26 +34,21 @@ module _ (d : ℕ) where
   raised_operands (Operands.Pair e q) = Operands.Pair (raised_evaluated e) (raised_evaluated q)
   raised_operands (Operands.Lone e) = Operands.Lone (raised_evaluated e)
   raised_operands (Operands.AddressConstants n m e) = Operands.AddressConstants n m (raised_evaluated e)
-  raised_operands Operands.None = Operands.None
+  raised_operands Operands.NoExpression = Operands.NoExpression
 
   -- the bases of USING
-  abbrev pub raised_base : Base → Base
-  raised_base Base.Idle = Base.Idle
-  raised_base (Base.Of v) = Base.Of (raised_value d v)
-
   abbrev pub raised_bases : Bases → Bases
-  raised_bases b = record { one = raised_base b.one; two = raised_base b.two }
+  raised_bases b = record { one = raised_maybe b.one; two = raised_maybe b.two }
 
   -- an indexed operand keeps its register and its displacement byte
   abbrev pub raised_operand : Operand → Operand
   raised_operand (Operand.Direct v) = Operand.Direct (raised_value d v)
   raised_operand (Operand.Indexed v r displacement) = Operand.Indexed (raised_value d v) r displacement
 
-  abbrev pub raised_placed : Placed → Placed
-  raised_placed (Placed.At x) = Placed.At (raised_operand x)
-  raised_placed Placed.NoBase = Placed.NoBase
-  raised_placed Placed.OutOfReach = Placed.OutOfReach
-  raised_placed Placed.Nothing = Placed.Nothing
+  abbrev pub raised_placed : Result (Option Operand) Refusal → Result (Option Operand) Refusal
+  raised_placed (Ok (Some x)) = Ok (Some (raised_operand x))
+  raised_placed (Ok None) = Ok None
+  raised_placed (Err r) = Err r
 
   -- TEXT
 

@@ -1,5 +1,5 @@
 -- The text of a card, by its form.
-use Rattle.theorems.specs.Logic.{ℕ, List}
+use Rattle.theorems.specs.Logic.{ℕ, List, Result}
 use Rattle.theorems.specs.Types.{Operation, DataCard, Shape, Reading}
 use Rattle.data.specs.declared.DataCard.TheVariants.{Constant, Reserve}
 use Rattle.data.specs.Sizes.{data_size}
@@ -13,7 +13,7 @@ abbrev pub data_makes : DataCard → ℕ → ℕ
 data_makes Constant size = size
 data_makes Reserve size = 0
 
-abbrev pub text_size : Operation → Shape → ℕ
+abbrev pub text_size : Operation → Result Shape ℕ → ℕ
 text_size op x = of_data x (λ d. data_makes d.card (data_size d)) (size_of op x)
 
 -- how many bytes a card makes, told by its columns alone

@@ -1,11 +1,11 @@
 -- R21.3: sums over cards and over records, which the counts answered must be.
 use Rattle.std.specs.Prelude.{◌+◌, ◌∷◌}
-use Rattle.theorems.specs.Logic.{ℕ, List, [], length, eqb}
+use Rattle.theorems.specs.Logic.{ℕ, List, [], length}
 use Rattle.theorems.specs.Types.{Reading, Record}
-use Rattle.values.specs.Tests.{pick}
 use Rattle.book.specs.Writing.{record_bytes}
 use Rattle.lines.specs.declared.Reading.TheVariants.{Comment, BadName, Statement}
 use Rattle.lines.specs.Lines.{reading_of}
+use Rattle.passes.specs.One.{if_named}
 
 unfoldable pub total : {A : Type 0} → (A → ℕ) → List A → ℕ
 total f [] = 0
@@ -15,7 +15,7 @@ total f (x ∷ xs) = f x + total f xs
 abbrev pub reading_defines : Reading → ℕ
 reading_defines Comment = 0
 reading_defines BadName = 0
-reading_defines (Statement l) = pick (eqb l.name 0) 0 1
+reading_defines (Statement l) = if_named l.name (λ name. 1)
 
 unfoldable pub defines : List ℕ → ℕ
 defines s = reading_defines (reading_of s)

@@ -1,14 +1,15 @@
 -- Laws on tests, words, parts of a list and stores in a row.
 use Prim.Native.Nat.{ℕ, suc, ◌+◌, ◌-◌, ◌*◌, ◌≤◌, ◌<◌}
-use mathlib.Core.List.{List, [], ◌∷◌, ◌++◌, append-nil}
+use mathlib.Core.List.{List, [], ◌∷◌, ◌++◌, append-nil, append_assoc}
 use mathlib.Core.Path.{◌≡◌, refl, sym, ap, ◌∙◌}
 use mathlib.Core.Bool.{Bool, true, false}
 use native.Mathlib.Nat.{add-zero, sub-zero, zero-add, suc-add, lt_of_not-le}
 use native.Mathlib.Numerals.{add-one}
 use native.Mathlib.Decide.{dec_le}
 use native.Mathlib.Omega.{arith}
+use borrow.Rule.Slice.PartMut.{put_mid}
 use lib.ListN.{length, get_or, take, drop, set, length-append, length-take, length-drop, length-set, drop_of_length-le}
-use lib.Seq.{drop-cons, sets, sets-eq, get_or-take, get_or-drop, get_or-append-add, drop-append-add, set-append_left, length-take-le}
+use lib.Seq.{drop-cons, drop-drop, sets, sets-eq, get_or-take, get_or-drop, get_or-append-add, drop-append-add, set-append_left, length-take-le}
 use Rattle.values.specs.Tests.{both}
 use Rattle.values.specs.Words.{word, long, base256, base256_on, four_bytes, part}
 
@@ -71,14 +72,6 @@ part-start s from n = rw (add-zero, sub-zero)
 pub get_or_part : (s : List ℕ) (from n i : ℕ) → i < n → get_or (part s from n) i 0 ≡ get_or s (from + i) 0
 get_or_part s from n i h = rw (get_or-take n (drop from s) i 0, get_or-drop)
 
-pub word-part : (s : List ℕ) (from n i : ℕ) → i + 2 ≤ n → word (part s from n) i ≡ word s (from + i)
-unfolding word
-word-part s from n i h =
-    let a : i < n = omega arith in
-    let b : i + 1 < n = omega arith in
-    let e : from + i + 1 ≡ from + (i + 1) = omega arith in
-    rw (get_or_part s from n i a, get_or_part s from n (i + 1) b, e)
-
 -- behind the first list a part is one of the second
 pub part-shift : (xs ys : List ℕ) (from n : ℕ) → part (xs ++ ys) (length xs + from) n ≡ part ys from n
 part-shift xs ys from n = rw (drop-append-add xs ys from)
@@ -107,16 +100,11 @@ long_four n s h = omega arith
 
 -- STORES IN A ROW
 
--- a turn of a loop that stores a run: the run that is left, from the place it has got to
-pub sets_turn : (m : List ℕ) (at i : ℕ) (vs : List ℕ) → i < length vs
-    → sets m (at + i) (drop i vs) ≡ sets (set m (at + i) (get_or vs i 0)) (at + (i + 1)) (drop (i + 1) vs)
-sets_turn m at i vs h =
-    let e : at + (i + 1) ≡ suc (at + i) = omega arith in
-    rw (drop-cons vs i 0 h, e, add-one)
-
--- nothing of the run is left
-pub sets-done : (m : List ℕ) (at : ℕ) (vs : List ℕ) (i : ℕ) → length vs ≤ i → sets m at (drop i vs) ≡ m
-sets-done m at vs i h = rw (drop_of_length-le vs h)
+-- a run copied over the part of its length is that run stored
+pub sets_mid : (m : List ℕ) (at : ℕ) (vs : List ℕ) → at + length vs ≤ length m → put_mid at (at + length vs - at) m vs ≡ sets m at vs
+sets_mid m at vs h =
+    let e : at + length vs - at ≡ length vs = omega arith in
+    rw (sets-eq vs m at h, e, drop-drop, append_assoc)
 
 -- one run after another is the two stored in a row
 pub sets_append : (m : List ℕ) (at : ℕ) (us vs : List ℕ) → sets m at (us ++ vs) ≡ sets (sets m at us) (at + length us) vs

@@ -1,4 +1,4 @@
 -- The laws that every crate cites.
 pub mod Laws
 pub mod Sums
-pub mod Refusals
+pub mod Numbers

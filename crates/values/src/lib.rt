@@ -1,124 +1,78 @@
 // Absolute and relocatable values and displacements, kept apart; and the big-endian words that they are written in.
 #![tactic(auto)]
 
-pub mod numbers;
+pub mod refusals;
 pub mod words;
 
 ghost use Rattle.std.specs.Prelude.{◌≡◌};
-ghost use Rattle.values.specs.Values.{amount_of, absolute_of, relocatable_of, only_absolute, only_relocatable, moved_by};
+ghost use Rattle.values.specs.Values.{amount_of, only_absolute, only_relocatable, moved_by};
 
 // A value that stays what it is wherever the program is loaded.
-#[derive(Clone, Copy)]
+#[derive(Clone, Copy, Debug, PartialEq, Eq)]
 pub struct Absolute(pub u16);
 
 // A place in the program: it goes where the program goes.
-#[derive(Clone, Copy)]
+#[derive(Clone, Copy, Debug, PartialEq, Eq)]
 pub struct Relocatable(pub u16);
 
 // How far a program is moved. It is neither of the two above.
-#[derive(Clone, Copy)]
+#[derive(Clone, Copy, Debug, PartialEq, Eq)]
 pub struct Displacement(u16);
 
-#[derive(Clone, Copy)]
+#[derive(Clone, Copy, Debug, PartialEq, Eq)]
 pub enum Value {
     Absolute(Absolute),
     Relocatable(Relocatable),
 }
 
 // The kind that a place asks of an expression.
-#[derive(Clone, Copy)]
+#[derive(Clone, Copy, Debug, PartialEq, Eq)]
 pub enum Wanted {
     Any,
     OnlyAbsolute,
     OnlyRelocatable,
 }
 
-// A value where there is one.
-#[derive(Clone, Copy)]
-pub enum MaybeValue {
-    Is(Value),
-    Nothing,
-}
-
-#[derive(Clone, Copy)]
-pub enum MaybeAbsolute {
-    Is(Absolute),
-    Nothing,
-}
-
-#[derive(Clone, Copy)]
-pub enum MaybeRelocatable {
-    Is(Relocatable),
-    Nothing,
-}
-
-// A value without its kind.
-pub fn amount_of(v: Value) -> u16
-    ensures { result ≡ amount_of v }
-{
-    match v {
-        Value::Absolute(a) => a.0,
-        Value::Relocatable(a) => a.0,
-    }
-}
-
-fn absolute_of(v: Value) -> MaybeAbsolute
-    ensures { result ≡ absolute_of v }
-{
-    match v {
-        Value::Absolute(a) => MaybeAbsolute::Is(a),
-        Value::Relocatable(_) => MaybeAbsolute::Nothing,
-    }
-}
-
-fn relocatable_of(v: Value) -> MaybeRelocatable
-    ensures { result ≡ relocatable_of v }
-{
-    match v {
-        Value::Absolute(_) => MaybeRelocatable::Nothing,
-        Value::Relocatable(a) => MaybeRelocatable::Is(a),
+impl Value {
+    // The value without its kind.
+    pub fn amount(self) -> u16
+        ensures { result ≡ amount_of self }
+    {
+        match self {
+            Value::Absolute(a) => a.0,
+            Value::Relocatable(a) => a.0,
+        }
     }
 }
 
 // The value if it is absolute.
-pub fn only_absolute(v: MaybeValue) -> MaybeAbsolute
+pub fn only_absolute(v: Option<Value>) -> Option<Absolute>
     ensures { result ≡ only_absolute v }
 {
     match v {
-        MaybeValue::Is(v) => absolute_of(v),
-        MaybeValue::Nothing => MaybeAbsolute::Nothing,
+        Some(Value::Absolute(a)) => Some(a),
+        _ => None,
     }
 }
 
 // The value if it is relocatable.
-pub fn only_relocatable(v: MaybeValue) -> MaybeRelocatable
+pub fn only_relocatable(v: Option<Value>) -> Option<Relocatable>
     ensures { result ≡ only_relocatable v }
 {
     match v {
-        MaybeValue::Is(v) => relocatable_of(v),
-        MaybeValue::Nothing => MaybeRelocatable::Nothing,
+        Some(Value::Relocatable(a)) => Some(a),
+        _ => None,
     }
-}
-
-// A relocatable value moved by a displacement, or that the sum is over 65535.
-#[derive(Clone, Copy)]
-pub enum Moved {
-    To(Relocatable),
-    Over,
 }
 
 impl Relocatable {
     // The only sum that takes a displacement.
     #[tactic(auto, unfolding(crate::specs::Values::moved_by))]
-    pub fn plus(self, d: Displacement) -> Moved
+    pub fn plus(self, d: Displacement) -> Option<Relocatable>
         ensures { result ≡ moved_by d self }
     {
-        let sum = self.0 as u32 + d.0 as u32;
-        if sum <= 65535 {
-            Moved::To(Relocatable(sum as u16))
-        } else {
-            Moved::Over
-        }
+        let sum = self.0.checked_add(d.0)?;
+        Some(Relocatable(sum))
     }
 }
 

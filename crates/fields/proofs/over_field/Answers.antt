@@ -1,30 +1,26 @@
--- Whether a field is over is whether the one at hand is, or one of those behind it.
-use Rattle.std.proofs.Common.{arith, ap, ◌∙◌, sym}
-use Rattle.book.specs.Reading.{record_there}
-use Rattle.fields.specs.Fields.{over_in}
-use Rattle.fields.proofs.Laws.{fields_left, fields_done, over-here, over-later, over_none}
+-- Whether a field is over is whether one of the offsets' fields is.
+use Rattle.std.proofs.Common.{arith, ◌+◌, ◌≤◌, ◌∙◌, ap, rules, tests, length}
+use Rattle.std.specs.Option.{is_none}
+use Rattle.std.proofs.lemmas.Iterator.{YieldsList-from_slice}
+use Rattle.std.proofs.lemmas.Iterator.Adapters.{serves_from_places}
+use Rattle.std.proofs.lemmas.Iterator.Search.{any_from_yields_List}
+use Rattle.values.specs.Values.{moved_by}
+use Rattle.book.specs.Records.{record_of}
+use Rattle.fields.specs.Fields.{field_in}
+use Rattle.fields.proofs.Laws.{offset_inside, over_any}
 use Rattle.fields.proofs.over_field.Goals as goal
 
-pub returns-in-Over : goal.returns-in-Over
-returns-in-Over c =
-    let a = c.args in
-    let text = (record_there a.book.now a.p).text in
-    let left = fields_left a.book.now a.p c.requires c.loop-i.i _ (omega arith) c.offset_at-offset.ensures.0 in
-    sym (c.loop-i.invariant.left ∙ ap (λ os. over_in a.d text os) left ∙ over-here a.d text _ _ c.in-Over.ensures)
-
-pub loop-i-preserved : goal.loop-i-preserved
-loop-i-preserved c =
-    let a = c.args in
-    let text = (record_there a.book.now a.p).text in
-    let left = fields_left a.book.now a.p c.requires c.loop-i.i _ (omega arith) c.offset_at-offset.ensures.0 in
-    record {
-      inside = omega arith;
-      left = c.loop-i.invariant.left ∙ ap (λ os. over_in a.d text os) left ∙ over-later a.d text _ _ _ c.in-To.ensures;
-    }
+pub any-requires-clause-callable : goal.any-requires-clause-callable
+any-requires-clause-callable c =
+    let os = (record_of c.args.r).fields in
+    serves_from_places (YieldsList-from_slice os cc) (λ x q k. search (rules, tests)) (λ x k h e.
+    let inside = offset_inside c.args.r k x.now h in
+    let size = ap length c.text-text.ensures.value in
+    let fits : x.now + 2 ≤ length c.text-text.result.now = omega arith in
+    search rules)
 
 pub returns : goal.returns
 returns c =
-    let a = c.args in
-    let text = (record_there a.book.now a.p).text in
-    let none = fields_done a.book.now a.p c.requires c.loop-i.i (omega arith) in
-    sym (c.loop-i.invariant.left ∙ ap (λ os. over_in a.d text os) none ∙ over_none a.d text)
+    let r = record_of c.args.r in
+    any_from_yields_List (λ o. is_none (moved_by c.args.d (field_in r.text o))) _ _ _ c.any.ensures.ran (YieldsList-from_slice r.fields cc) (λ x b q k. search (rules, tests))
+    ∙ over_any c.args.d r.text r.fields

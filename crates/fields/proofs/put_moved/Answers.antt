@@ -1,57 +1,49 @@
 -- The text is laid down, then its fields are moved in place, one at each turn.
-use Rattle.std.proofs.Common.{arith, ap, ◌∙◌, sym, refl, subst, List, ℕ, ◌≡◌, length}
+use Rattle.std.proofs.Common.{List, ℕ, arith, ap, ◌∙◌, subst}
 use Rattle.std.proofs.lemmas.List.Edits.{sets}
-use Rattle.values.proofs.Laws.{part_between, clash}
-use Rattle.book.specs.Reading.{record_there}
-use Rattle.book.proofs.Places.{text-length}
-use Rattle.fields.specs.Fields.{over_in}
-use Rattle.fields.proofs.Laws.{fields_left, fields_done, over-here, over-later, Moving, moving_start, moving_turn, moving_end}
+use Rattle.values.specs.Values.{moved_by}
+use Rattle.book.specs.Records.{record_of}
+use Rattle.fields.specs.Fields.{field_in}
+use Rattle.fields.proofs.Laws.{offset_turn, offsets_done, Moving, moving_start, moving_turn, moving_kept, moving_end}
+use Rattle.fields.proofs.put_moved.Goals.{in-Some, in_default}
 use Rattle.fields.proofs.put_moved.Goals as goal
 
-pub loop-i-init : goal.loop-i-init
-loop-i-init c =
+pub loop-byte-init : goal.loop-byte-init
+loop-byte-init c =
     let a = c.args in
-    let n = text-length a.book.now a.p c.requires.sound in
-    let laid = c.put_bytes.ensures ∙ ap (λ t. sets a.m.now a.to t) (part_between a.book.now a.p.text a.p.size) in
-    record {
-      inside = omega arith;
-      same_length = refl;
-      none_over = c.requires.none_over;
-      moving = moving_start a.m.now a.to a.d (record_there a.book.now a.p) (omega arith) _ laid;
-    }
+    let laid = c.put_bytes.ensures ∙ ap (λ t. sets a.m.now a.to t) c.text-text.ensures.value in
+    moving_start a.m.now a.to a.d (record_of a.r) c.requires _ laid
 
-pub returns-in-Over : goal.returns-in-Over
-returns-in-Over c =
-    let a = c.args in
-    let text = (record_there a.book.now a.p).text in
-    let left = fields_left a.book.now a.p c.requires.sound c.loop-i.i _ (omega arith) c.offset_at-offset.ensures.0 in
-    let over = sym c.loop-i.invariant.none_over ∙ ap (λ os. over_in a.d text os) left ∙ over-here a.d text _ _ c.in-Over.ensures in
-    clash (cc over)
+pub moved_field-requires : goal.moved_field-requires
+moved_field-requires c =
+    let (left, inside) = offset_turn c.args.r _ _ _ c.offsets-byte-items.ensures.value c.loop-byte-test.true c.from-offset.ensures in
+    rw c.text-text.ensures.value inside
 
-pub loop-i-preserved : goal.loop-i-preserved
-loop-i-preserved c =
+pub put_word-requires : goal.put_word-requires
+put_word-requires c =
+    let (left, inside) = offset_turn c.args.r _ _ _ c.offsets-byte-items.ensures.value c.loop-byte-test.true c.from-offset.ensures in
+    omega (arith, inside, c.requires, c.loop-byte.auto.m)
+
+pub loop-byte-preserved : goal.loop-byte-preserved
+loop-byte-preserved c =
     let a = c.args in
-    let l = c.loop-i in
-    let r = record_there a.book.now a.p in
-    let n = text-length a.book.now a.p c.requires.sound in
-    let left = fields_left a.book.now a.p c.requires.sound l.i _ (omega arith) c.offset_at-offset.ensures.0 in
-    let fits = c.offset_at-offset.ensures.1 in
-    let kept : length c.put_word.new.m ≡ length l.m = c.put_word.auto.m in
-    record {
-      inside = omega arith;
-      same_length = kept ∙ l.invariant.same_length;
-      none_over = sym (over-later a.d r.text _ _ _ c.in-To.ensures) ∙ ap (λ os. over_in a.d r.text os) (sym left) ∙ l.invariant.none_over;
-      moving = moving_turn c.put_bytes.new.m a.to a.d r (omega arith) _ _ l.m _ _
-          (subst (λ (os : List ℕ). Moving c.put_bytes.new.m a.to a.d r os l.m) left l.invariant.moving) (omega arith) c.in-To.ensures c.put_word.ensures;
-    }
+    let l = c.loop-byte in
+    let r = record_of a.r in
+    let m₀ = c.put_bytes.new.m in
+    let (left, inside) = offset_turn a.r _ _ _ c.offsets-byte-items.ensures.value c.loop-byte-test.true c.from-offset.ensures in
+    let moving = subst (λ (os : List ℕ). Moving m₀ a.to a.d r os l.m) left l.invariant in
+    let in_text = ap (λ t. moved_by a.d (field_in t c.from-offset.result)) c.text-text.ensures.value in
+    elim c.match-moved_field.branch [
+      | in-Some w ↦ rw w.m-is (moving_turn m₀ a.to a.d r (omega (arith, c.requires)) _ _ l.m _ _ moving inside (w.in-Some.ensures ∙ in_text) w.put_word.ensures)
+      | in_default w ↦ rw w.m-is (moving_kept m₀ a.to a.d r (omega (arith, c.requires)) _ _ l.m moving (w.in_default.ensures ∙ in_text))
+    ]
 
 pub returns : goal.returns
 returns c =
     let a = c.args in
-    let l = c.loop-i in
-    let r = record_there a.book.now a.p in
-    let n = text-length a.book.now a.p c.requires.sound in
-    let none = fields_done a.book.now a.p c.requires.sound l.i (omega arith) in
-    let laid = c.put_bytes.ensures ∙ ap (λ t. sets a.m.now a.to t) (part_between a.book.now a.p.text a.p.size) in
-    moving_end a.m.now a.to a.d r (omega arith) _ l.m laid
-    (subst (λ (os : List ℕ). Moving c.put_bytes.new.m a.to a.d r os l.m) none l.invariant.moving)
+    let l = c.loop-byte in
+    let r = record_of a.r in
+    let none = offsets_done a.r _ l.byte-index c.offsets-byte-items.ensures.value (omega arith) in
+    let laid = c.put_bytes.ensures ∙ ap (λ t. sets a.m.now a.to t) c.text-text.ensures.value in
+    moving_end a.m.now a.to a.d r c.requires _ l.m laid
+    (subst (λ (os : List ℕ). Moving c.put_bytes.new.m a.to a.d r os l.m) none l.invariant)

@@ -6,8 +6,8 @@ use Rattle.letters.proofs.code_of.Goals as goal
 
 pub returns-then-p-b : goal.returns-then-p-b
 unfolding table
-returns-then-p-b c = code-there c.args.b (omega arith) c.place_of-i.result c.place_of-i.ensures.0 c.if-p-b.true
+returns-then-p-b c = code-there c.args.b (omega arith) c.place_of.result c.place_of.ensures.0 c.if-p-b.true
 
 pub returns-else-p-b : goal.returns-else-p-b
 unfolding table
-returns-else-p-b c = code-none c.args.b (omega arith) c.place_of-i.result c.place_of-i.ensures.0 c.if-p-b.false
+returns-else-p-b c = code-none c.args.b (omega arith) c.place_of.result c.place_of.ensures.0 c.if-p-b.false

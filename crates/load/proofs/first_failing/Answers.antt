@@ -1,30 +1,13 @@
--- The first record that fails is the one at hand, or one of those behind it.
-use Rattle.std.proofs.Common.{arith, ◌∙◌, sym, refl}
-use Rattle.book.specs.Reading.{record_there}
-use Rattle.book.proofs.Turns.{start, onward, first, gave, no_record}
-use Rattle.load.proofs.Laws.{first_hit, first-miss, first-none}
+-- The record that is found is the first that fails.
+use Rattle.std.proofs.Common.{rules, tests}
+use Rattle.std.proofs.lemmas.Iterator.Consumers.{YieldsList-from_first}
+use Rattle.std.proofs.lemmas.Iterator.Search.{find_from_yields_List}
+use Rattle.book.specs.Reading.{records_in}
+use Rattle.book.specs.Records.{record_of, records_left}
+use Rattle.load.proofs.Laws.{card_found}
 use Rattle.load.proofs.first_failing.Goals as goal
 
-pub loop-p-init : goal.loop-p-init
-loop-p-init c =
-    let (e, q) = c.requires in
-    rw (c.first-cursor.ensures.0, c.first-cursor.ensures.1) (start _ e q _ refl)
-
-pub fails_test-requires : goal.fails_test-requires
-fails_test-requires c = (gave _ _ _ _ _ c.in-Record.ensures).sound
-
-pub returns-then-fails_test : goal.returns-then-fails_test
-returns-then-fails_test c =
-    let (rest, holds) = first _ _ _ _ c.loop-p.invariant _ _ c.in-Record.ensures in
-    sym (holds ∙ first_hit _ (record_there c.args.book.now c.in-Record.p) rest (sym c.if-fails_test.ensures))
-
-pub loop-p-smaller : goal.loop-p-smaller
-loop-p-smaller c = let g = gave _ _ _ _ _ c.in-Record.ensures in omega (arith, g.on, g.within)
-
-pub loop-p-preserved : goal.loop-p-preserved
-loop-p-preserved c =
-    onward _ _ _ _ c.loop-p.invariant _ _ _ c.in-Record.ensures
-    (λ rest holds. holds ∙ first-miss _ (record_there c.args.book.now c.in-Record.p) rest (sym c.if-fails_test.ensures))
-
-pub returns-in_default : goal.returns-in_default
-returns-in_default c = sym (no_record _ _ _ _ c.loop-p.invariant _ c.in_default.not-Record c.next.ensures ∙ first-none _)
+pub returns-clause-card : goal.returns-clause-card
+returns-clause-card g c test acts =
+    let found = find_from_yields_List test c.find.new.self _ c.find.result c.find.ensures.ran (YieldsList-from_first record_of records_left (records_in c.args.book.now) c.of.ensures) (λ x b q k. search (rules, tests, acts)) in
+    card_found test (records_in c.args.book.now) c.find.result c.map.result _ found c.map.ensures.cases (λ r n h. search (rules, tests))

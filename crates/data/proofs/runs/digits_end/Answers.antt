@@ -1,41 +1,37 @@
--- `runs::digits_end` meets its contract: a turn passes one digit, and behind the last the digits end.
-use Rattle.std.proofs.Common.{arith, ◌∙◌, ◌≡◌, ◌-◌, ◌<◌, ℕ, List, true, length, get_or, refl, sym, ap}
-use borrow.Author.Tests.{lt-ltb, le-ltb}
+-- `runs::digits_end` meets its contract: the digits are those bytes from the position on that are one of the base.
+use native.Mathlib.Omega.{arith}
+use borrow.Author.Tests.{tests, le-ltb}
 use lib.Dec.{ltb}
+use Rattle.std.proofs.Common.{ℕ, Bool, false, ◌≡◌, ◌+◌, ◌≤◌, length, drop, rules, sym, ap, ◌∙◌}
+use Rattle.std.proofs.Math.ListN.{length-drop}
+use Rattle.std.specs.List.{prefix_len}
+use Rattle.std.proofs.lemmas.Iterator.{YieldsList-from_slice}
+use Rattle.std.proofs.lemmas.Iterator.Adapters.{YieldsList-from_skip}
+use Rattle.std.proofs.lemmas.Iterator.Consumers.{YieldsList-at, count_from_yields_List}
+use Rattle.std.proofs.lemmas.Iterator.Search.{YieldsList-from_take_while}
+use Rattle.std.proofs.lemmas.List.{take_all}
+use Rattle.std.proofs.lemmas.List.Folds.{length-prefix_len}
+use Rattle.letters.specs.Text.{is_from_to}
 use Rattle.letters.specs.Letters.{digit_of}
-use Rattle.letters.proofs.Runs.{run_stop}
-use Rattle.terms.specs.Terms.{digit_at}
+use Rattle.letters.proofs.Runs.{run_prefix}
 use Rattle.data.specs.Runs.{digits_end}
-use Rattle.data.proofs.Turns.{digit-inside, digits_more}
 use Rattle.data.proofs.runs.digits_end.Goals as goal
 
-pub loop-i-init : goal.loop-i-init
-unfolding digits_end
-loop-i-init c = (length c.args.s.now, omega arith, refl)
-
--- a digit that was read stands there
-there : (s : List ℕ) (i base r d : ℕ) → r ≡ get_or s i 0 → d ≡ digit_of r → d < base → digit_at base s i ≡ true
-there s i base r d e f h = lt-ltb _ _ (rw (f, e) at h)
-
-pub overflow_add-i : goal.overflow_add-i
-overflow_add-i c =
-    let t = there c.args.s.now c.loop-i.i c.args.base _ _ c.byte_at.ensures c.digit_of.ensures.0 c.loop-i-test.true in
-    omega (arith, digit-inside c.args.base c.args.s.now c.loop-i.i c.requires t)
-
-pub loop-i-smaller : goal.loop-i-smaller
-loop-i-smaller c =
-    let t = there c.args.s.now c.loop-i.i c.args.base _ _ c.byte_at.ensures c.digit_of.ensures.0 c.loop-i-test.true in
-    omega (arith, digit-inside c.args.base c.args.s.now c.loop-i.i c.requires t)
-
-pub loop-i-preserved : goal.loop-i-preserved
-loop-i-preserved c =
-    let (n, w, e) = c.loop-i.invariant in
-    let t = there c.args.s.now c.loop-i.i c.args.base _ _ c.byte_at.ensures c.digit_of.ensures.0 c.loop-i-test.true in
-    let i = digit-inside c.args.base c.args.s.now c.loop-i.i c.requires t in
-    (n - 1, omega arith, sym (digits_more n c.args.base c.args.s.now c.loop-i.i c.requires w t) ∙ e)
+-- past the end stands no digit
+past_end : (base : ℕ) → base ≤ 16 → ltb (digit_of 0) base ≡ false
+unfolding digit_of is_from_to
+past_end base h = le-ltb 16 base h
 
 pub returns : goal.returns
+unfolding digits_end
 returns c =
-    let (n, w, e) = c.loop-i.invariant in
-    let d = c.digit_of.ensures.0 ∙ ap digit_of c.byte_at.ensures in
-    sym (run_stop (λ d. ltb (digit_of d) c.args.base) n c.args.s.now c.loop-i.i (le-ltb _ _ (rw d at c.loop-i-test.false))) ∙ e
+    let goes : ℕ → Bool = λ d. ltb (digit_of d) c.args.base in
+    let left = drop c.args.at c.args.s.now in
+    let n : c.count.result ≡ prefix_len goes left =
+    count_from_yields_List c.take_while.result _ c.count.ensures.ran
+    (YieldsList-from_take_while _ goes
+    (YieldsList-at c.take_while.ensures.source (YieldsList-from_skip c.args.at (YieldsList-at c.skip.ensures.source (YieldsList-from_slice c.args.s.now (search rules))) c.skip.ensures.count))
+    c.take_while.ensures.closure c.take_while.ensures.done (λ x b q k. search (rules, tests)))
+    ∙ length-prefix_len goes left in
+    let all = take_all (length c.args.s.now) left (rw length-drop (omega arith)) in
+    sym (run_prefix goes (length c.args.s.now) c.args.s.now c.args.at (λ h. past_end c.args.base c.requires) ∙ ap (λ l. c.args.at + prefix_len goes l) all ∙ ap (λ k. c.args.at + k) (sym n))

@@ -5,6 +5,3 @@ use Rattle.data.proofs.runs.number_in.Given as goal
 
 abbrev pub invariant-loop-i : goal.invariant-loop-i
 invariant-loop-i l = (l.v ≤ 65536) × (told (number_from (l.end - l.i) l.s l.i l.v) ≡ told (number_from (l.end - l.at) l.s l.at 0))
-
-abbrev pub decreases-loop-i : goal.decreases-loop-i
-decreases-loop-i l = l.end - l.i

@@ -1,11 +1,8 @@
 -- Storing all codes is storing those left, from the place now.
-use Rattle.std.proofs.Common.{◌-◌, ◌≡◌, ◌+◌, ◌≤◌, length}
+use Rattle.std.proofs.Common.{◌-◌, ◌≡◌, ◌+◌, length}
 use Rattle.std.proofs.lemmas.List.Edits.{sets}
 use Rattle.data.specs.Text.{codes_from}
 use Rattle.data.proofs.text.put_codes.Given as goal
 
 abbrev pub invariant-loop-i : goal.invariant-loop-i
-invariant-loop-i l = (l.i ≤ l.n) × (length l.m ≡ length l.fn.m) × (sets l.fn.m l.to (codes_from l.n l.o l.at) ≡ sets l.m (l.to + l.i) (codes_from (l.n - l.i) l.o l.p))
-
-abbrev pub decreases-loop-i : goal.decreases-loop-i
-decreases-loop-i l = l.n - l.i
+invariant-loop-i l = (length l.m ≡ length l.fn.m) × (sets l.fn.m l.to (codes_from l.n l.o l.at) ≡ sets l.m (l.to + l.i) (codes_from (l.n - l.i) l.o l.p))

@@ -1,12 +1,12 @@
--- `text::put_fill` meets its contract: a turn stores one byte, and the run behind it is left.
-use Rattle.std.proofs.Common.{arith, ◌∙◌}
-use Rattle.std.proofs.Math.ListN.{length-set}
-use Rattle.data.proofs.Texts.{store_more, fill_more}
+-- `text::put_fill` meets its contract: the part that is filled is a run of that byte.
+use native.Mathlib.Omega.{arith}
+use Rattle.std.proofs.Common.{◌≡◌, ◌+◌, ◌-◌, replicate, rules}
+use Rattle.std.proofs.Math.ListN.{length-replicate}
+use Rattle.data.proofs.Texts.{part-stored}
 use Rattle.data.proofs.text.put_fill.Goals as goal
 
-pub loop-i-preserved : goal.loop-i-preserved
-loop-i-preserved c = (
-  omega arith,
-  simp length-set c.loop-i.invariant.1,
-  c.loop-i.invariant.2 ∙ store_more c.loop-i.m c.args.to c.loop-i.i c.args.b _ _ (fill_more c.args.n c.loop-i.i c.args.b c.loop-i-test.true),
-)
+pub returns : goal.returns
+returns c =
+    let n : c.args.to + c.args.n - c.args.to ≡ c.args.n = omega arith in
+    let filled : c.fill.new.self ≡ replicate c.args.n c.args.b = search rules in
+    part-stored c.args.m.now c.args.to (c.args.to + c.args.n - c.args.to) _ (replicate c.args.n c.args.b) (omega arith) filled (rw n (length-replicate c.args.n c.args.b))
