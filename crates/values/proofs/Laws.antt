@@ -72,6 +72,14 @@ part-start s from n = rw (add-zero, sub-zero)
 pub get_or_part : (s : List ℕ) (from n i : ℕ) → i < n → get_or (part s from n) i 0 ≡ get_or s (from + i) 0
 get_or_part s from n i h = rw (get_or-take n (drop from s) i 0, get_or-drop)
 
+pub word-part : (s : List ℕ) (from n i : ℕ) → i + 2 ≤ n → word (part s from n) i ≡ word s (from + i)
+unfolding word
+word-part s from n i h =
+    let a : i < n = omega arith in
+    let b : i + 1 < n = omega arith in
+    let e : from + i + 1 ≡ from + (i + 1) = omega arith in
+    rw (get_or_part s from n i a, get_or_part s from n (i + 1) b, e)
+
 -- behind the first list a part is one of the second
 pub part-shift : (xs ys : List ℕ) (from n : ℕ) → part (xs ++ ys) (length xs + from) n ≡ part ys from n
 part-shift xs ys from n = rw (drop-append-add xs ys from)
@@ -99,6 +107,17 @@ unfolding long word
 long_four n s h = omega arith
 
 -- STORES IN A ROW
+
+-- a turn of a loop that stores a run: the run that is left, from the place it has got to
+pub sets_turn : (m : List ℕ) (at i : ℕ) (vs : List ℕ) → i < length vs
+    → sets m (at + i) (drop i vs) ≡ sets (set m (at + i) (get_or vs i 0)) (at + (i + 1)) (drop (i + 1) vs)
+sets_turn m at i vs h =
+    let e : at + (i + 1) ≡ suc (at + i) = omega arith in
+    rw (drop-cons vs i 0 h, e, add-one)
+
+-- nothing of the run is left
+pub sets-done : (m : List ℕ) (at : ℕ) (vs : List ℕ) (i : ℕ) → length vs ≤ i → sets m at (drop i vs) ≡ m
+sets-done m at vs i h = rw (drop_of_length-le vs h)
 
 -- a run copied over the part of its length is that run stored
 pub sets_mid : (m : List ℕ) (at : ℕ) (vs : List ℕ) → at + length vs ≤ length m → put_mid at (at + length vs - at) m vs ≡ sets m at vs

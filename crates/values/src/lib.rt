@@ -16,7 +16,7 @@ pub struct Absolute(pub u16);
 pub struct Relocatable(pub u16);
 
 // How far a program is moved. It is neither of the two above.
-#[derive(Clone, Copy, Debug, PartialEq, Eq)]
+#[derive(Clone, Copy)]
 pub struct Displacement(u16);
 
 #[derive(Clone, Copy, Debug, PartialEq, Eq)]

@@ -3,7 +3,7 @@ ghost use Rattle.std.specs.Prelude.{◌≡◌, ◌<◌};
 ghost use Rattle.values.specs.Tests.{lower};
 ghost use Rattle.values.specs.Refusals.{number_of, number_in};
 
-// Why a source, a card or a call is refused, by document 01's number.
+// Why a source, a card or a call is refused, by its number.
 #[derive(Clone, Copy, Debug, PartialEq, Eq)]
 pub enum Refusal {
     // The source is not whole cards of 80 or 96 columns.

@@ -27,11 +27,11 @@ pub fn put_word(m: &mut [u8], at: usize, w: u16)
 }
 
 // The bytes of a run laid over a slice from a place on.
-#[tactic(auto, using(crate::proofs::Laws::sets_mid))]
 pub fn put_bytes(m: &mut [u8], at: usize, bytes: &[u8])
     requires { at + length bytes.now ≤ length m.old }
     ensures { m.new ≡ sets m.old at bytes.now }
 {
-    let end = at + bytes.len();
-    m[at..end].copy_from_slice(bytes);
+    for i in 0..bytes.len() {
+        m[at + i] = bytes[i];
+    }
 }
