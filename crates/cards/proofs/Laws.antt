@@ -1,14 +1,16 @@
 -- Laws of cards: a turn of each reader, and where the fields of a card lie.
 use Prim.Native.Nat.{ℕ, zero, suc, ◌+◌, ◌-◌, ◌≤◌, ◌<◌}
 use mathlib.Core.List.{List, [], ◌∷◌}
-use mathlib.Core.Path.{◌≡◌, refl}
+use mathlib.Core.Path.{◌≡◌, refl, ap, ◌∙◌}
 use mathlib.Core.Bool.{Bool, true, false, not}
+use native.Mathlib.Numerals.{add-one}
 use native.Mathlib.Omega.{arith}
-use lib.ListN.{length}
+use lib.ListN.{length, get_or, drop, drop_of_length-le}
+use lib.Seq.{drop-cons}
 use Rattle.std.specs.List.{list_all}
 use Rattle.std.specs.Prelude.{◌&&◌, Option, Some, None, Result, Ok, Err}
 use Rattle.letters.specs.Text.{stands, run_end}
-use Rattle.letters.proofs.Runs.{run_bounds}
+use Rattle.letters.proofs.Runs.{run_more, run_stop, run_none, run_bounds}
 use Rattle.values.specs.Tests.{pick, both}
 use Rattle.letters.specs.Letters.{class_of, is_accepted}
 use Rattle.terms.specs.Names.{name_at}
@@ -30,15 +32,50 @@ accepted_all (b ∷ bs) = step (is_accepted (class_of b)) (accepted_all bs)
     step true e = e
     step false e = refl
 
+pub accepted-more : (s : List ℕ) (i : ℕ) → i < length s → is_accepted (class_of (get_or s i 0)) ≡ true → all_accepted (drop i s) ≡ all_accepted (drop (i + 1) s)
+unfolding all_accepted
+accepted-more s i h e = rw (drop-cons s i 0 h, e, add-one)
+
+pub accepted-stop : (s : List ℕ) (i : ℕ) → i < length s → is_accepted (class_of (get_or s i 0)) ≡ false → all_accepted (drop i s) ≡ false
+unfolding all_accepted
+accepted-stop s i h e = rw (drop-cons s i 0 h, e)
+
+pub accepted-none : (s : List ℕ) (i : ℕ) → length s ≤ i → all_accepted (drop i s) ≡ true
+unfolding all_accepted
+accepted-none s i h = rw (drop_of_length-le s h)
+
 -- one column fewer is left
 less_left : (n i : ℕ) → i < n → n - i ≡ suc (n - (i + 1))
 less_left n i h = omega arith
 
+none_left : (n i : ℕ) → n ≤ i → n - i ≡ 0
+none_left n i h = omega arith
+
 module _ (s : List ℕ) (i : ℕ) where
+  -- a turn of a reader of columns that pass a test
+  pub columns-more : (goes : ℕ → Bool) → i < length s → goes (get_or s i 0) ≡ true → run_end goes (length s - i) s i ≡ run_end goes (length s - (i + 1)) s (i + 1)
+  columns-more goes h e =
+      let less : length s - i - 1 ≡ length s - (i + 1) = omega arith in
+      run_more goes (length s - i) s i (omega arith) e ∙ ap (λ n. run_end goes n s (i + 1)) less
+
+  pub columns-stop : (goes : ℕ → Bool) → goes (get_or s i 0) ≡ false → run_end goes (length s - i) s i ≡ i
+  columns-stop goes e = run_stop goes (length s - i) s i e
+
+  pub columns-none : (goes : ℕ → Bool) → length s ≤ i → run_end goes (length s - i) s i ≡ i
+  columns-none goes h = run_none goes (length s - i) s i (omega arith)
+
   pub operand-more : (inside : Bool) → i < length s → both (not inside) (blank_at s i) ≡ false
       → operand_end (length s - i) inside s i ≡ operand_end (length s - (i + 1)) (turned inside s i) s (i + 1)
   unfolding operand_end
   operand-more inside h e = rw (less_left (length s) i h, e)
+
+  pub operand-stop : (inside : Bool) → i < length s → both (not inside) (blank_at s i) ≡ true → operand_end (length s - i) inside s i ≡ i
+  unfolding operand_end
+  operand-stop inside h e = rw (less_left (length s) i h, e)
+
+  pub operand-none : (inside : Bool) → length s ≤ i → operand_end (length s - i) inside s i ≡ i
+  unfolding operand_end
+  operand-none inside h = rw (none_left (length s) i h)
 
 -- WHERE THE FIELDS LIE
 

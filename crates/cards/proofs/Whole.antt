@@ -1,9 +1,9 @@
 -- What is known of a source that refusals 1 and 2 let through: whole cards, at most 4,000, each with its statement columns inside.
-use Prim.Native.Nat.{ℕ, zero, suc, ◌+◌, ◌*◌, ◌/◌, ◌%◌, ◌≤◌, ◌<◌}
+use Prim.Native.Nat.{ℕ, zero, suc, ◌+◌, ◌-◌, ◌*◌, ◌/◌, ◌%◌, ◌≤◌, ◌<◌}
 use mathlib.Core.List.{List, []}
 use mathlib.Core.Path.{◌≡◌, refl, ap, ◌∙◌}
 use mathlib.Core.Bool.{Bool, true, false}
-use native.Mathlib.Nat.{not-suc-le-zero, mul-le-mul_right}
+use native.Mathlib.Nat.{not-suc-le-zero, mul-suc, mul-le-mul_right}
 use native.Mathlib.Omega.{arith}
 use borrow.Author.Tests.{eqb-true, leb-true}
 use lib.Dec.{eqb, leb}
@@ -45,6 +45,14 @@ source_whole width size e = go (eqb width 80) refl (eqb width 96) refl e
 -- the width can be divided by
 pub source_wide : (width size : ℕ) → source_no width size ≡ 0 → 0 < width
 source_wide width size e = let some = (source_whole width size e).some in omega arith
+
+-- a turn over the cards: `left` of them from a place on fill the source
+pub card-inside : (width size at left : ℕ) → source_no width size ≡ 0 → at + width * left ≡ size → 0 < left
+    → (at + columns_of width ≤ size) × (at + width + width * (left - 1) ≡ size)
+card-inside width size at left e h l =
+    let w = (source_whole width size e).columns in
+    let m : width * left ≡ width * (left - 1) + width = let n : left ≡ suc (left - 1) = omega arith in ap (λ i. width * i) n ∙ mul-suc width (left - 1) in
+    (omega arith, omega arith)
 
 -- THE CARDS AS A LIST
 

@@ -1,5 +1,6 @@
 // A source: cards of 80 or 96 bytes, of which the first 71 or 87 columns are the statement.
-ghost use Rattle.std.specs.Prelude.{◌≡◌, ◌≤◌, ◌<◌, [], length, get_or, IfOk};
+ghost use Rattle.std.specs.Prelude.{◌≡◌, ◌+◌, ◌≤◌, ◌<◌, [], length, get_or, IfOk};
+ghost use Rattle.values.specs.Words.{part};
 ghost use Rattle.values.specs.Refusals.{number_in};
 ghost use Rattle.cards.specs.Source.{columns_of, whole_no, source_no, cards_of};
 
@@ -21,7 +22,7 @@ fn check_whole(rest: usize, count: usize) -> Result<(), Refusal>
 
 // 1 and 2 of a source of so many bytes.
 #[tactic(auto, unfolding(crate::specs::Source::source_no))]
-fn check_source(width: u32, size: usize) -> Result<(), Refusal>
+pub fn check_source(width: u32, size: usize) -> Result<(), Refusal>
     ensures { number_in result ≡ source_no width size }
 {
     match width {
@@ -33,8 +34,8 @@ fn check_source(width: u32, size: usize) -> Result<(), Refusal>
 
 // How many columns the statement has.
 #[tactic(auto, unfolding(crate::specs::Source::columns_of))]
-fn columns_of(width: usize) -> usize
-    ensures { result ≡ columns_of width }
+pub fn columns_of(width: u32) -> usize
+    ensures { (result ≡ columns_of width) × (result ≤ 87) }
 {
     match width {
         80 => 71,
@@ -43,10 +44,18 @@ fn columns_of(width: usize) -> usize
     }
 }
 
+// The statement columns of the card that starts at a place.
+pub fn card_at(source: &[u8], at: usize, columns: usize) -> &[u8]
+    requires { at + columns ≤ length source.now }
+    ensures { result.now ≡ part source.now at columns }
+{
+    &source[at..at + columns]
+}
+
 // A source that refusals 1 and 2 let through: to a contract, the list of its cards, each its statement columns.
 #[derive(Drop)]
 pub struct Source<'a> {
-    width: usize,
+    width: u32,
     bytes: &'a [u8],
 }
 
@@ -69,17 +78,14 @@ impl<'a> Source<'a> {
         ensures cards { IfOk result (λ s. s ≡ cards_of width bytes.entry.now) }
     {
         check_source(width, bytes.len())?;
-        Ok(Source {
-            width: width as usize,
-            bytes,
-        })
+        Ok(Source { width, bytes })
     }
 
     #[tactic(auto, using(crate::proofs::Whole::source_wide, crate::proofs::Whole::source_whole, crate::proofs::Whole::cards_length))]
     pub fn len(&self) -> usize
         ensures { (result ≡ length self.now) × (result ≤ 4000) }
     {
-        self.bytes.len() / self.width
+        self.bytes.len() / self.width as usize
     }
 
     // The statement columns of card i, counted from 0.
@@ -88,7 +94,7 @@ impl<'a> Source<'a> {
         requires { i < length self.now }
         ensures { result.now ≡ get_or self.now i [] }
     {
-        let at = i * self.width;
-        &self.bytes[at..at + columns_of(self.width)]
+        let at = i * self.width as usize;
+        card_at(self.bytes, at, columns_of(self.width))
     }
 }
