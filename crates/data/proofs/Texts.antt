@@ -8,7 +8,7 @@ use native.Mathlib.Numerals.{sub-one}
 use native.Mathlib.Omega.{arith}
 use borrow.Author.Tests.{eqb-true, eqb-false, ne_eqb}
 use lib.Dec.{eqb}
-use lib.ListN.{length, set, take, drop, length-append, length-replicate}
+use lib.ListN.{length, set, replicate, take, drop, length-append, length-replicate}
 use lib.Seq.{sets, sets-eq}
 use borrow.Rule.Slice.PartMut.{put_mid}
 use Rattle.std.proofs.lemmas.Slice.{put_mid-paste}
@@ -90,6 +90,21 @@ module _ (n i : ℕ) (s : List ℕ) (at : ℕ) (h : i < n) where
   pub pairs_more : pairs_from (n - i) s at ≡ pair_at s at ∷ pairs_from (n - (i + 1)) s (at + 2)
   unfolding pairs_from
   pairs_more = rw left
+
+pub fill_more : (n i b : ℕ) → i < n → replicate (n - i) b ≡ b ∷ replicate (n - (i + 1)) b
+fill_more n i b h = let k : n - i ≡ suc (n - (i + 1)) = omega arith in rw k
+
+-- nothing is left to store
+pub codes_done : (m : List ℕ) (to n i : ℕ) (s : List ℕ) (at : ℕ) → n ≤ i → sets m to (codes_from (n - i) s at) ≡ m
+unfolding codes_from
+codes_done m to n i s at h = let k : n - i ≡ 0 = omega arith in rw k
+
+pub pairs_done : (m : List ℕ) (to n i : ℕ) (s : List ℕ) (at : ℕ) → n ≤ i → sets m to (pairs_from (n - i) s at) ≡ m
+unfolding pairs_from
+pairs_done m to n i s at h = let k : n - i ≡ 0 = omega arith in rw k
+
+pub fill_done : (m : List ℕ) (to n i b : ℕ) → n ≤ i → sets m to (replicate (n - i) b) ≡ m
+fill_done m to n i b h = let k : n - i ≡ 0 = omega arith in rw k
 
 -- a part written over, as a run stored from where it begins
 pub part-stored : (m : List ℕ) (at n : ℕ) (ys zs : List ℕ) → at + n ≤ length m → ys ≡ zs → length zs ≡ n → put_mid at n m ys ≡ sets m at zs

@@ -5,13 +5,28 @@ use mathlib.Core.Path.{◌≡◌}
 use native.Mathlib.Nat.{not-suc-le-zero}
 use native.Mathlib.Numerals.{sub-one}
 use native.Mathlib.Omega.{arith}
-use lib.Dec.{eqb}
+use mathlib.Core.Bool.{true}
+use borrow.Author.Tests.{ltb-true}
+use lib.Dec.{eqb, ltb}
+use lib.ListN.{length, get_or}
 use Rattle.values.specs.Tests.{pick}
+use Rattle.letters.specs.Letters.{digit_of}
+use Rattle.letters.proofs.Laws.{inside-digit}
+use Rattle.letters.proofs.Runs.{run_more}
 use Rattle.terms.specs.declared.Quoted.TheVariants.{One, Closed}
-use Rattle.terms.specs.Terms.{with_digit, quoted_at}
-use Rattle.data.specs.Runs.{number_from, told}
+use Rattle.terms.specs.Terms.{digit_at, with_digit, quoted_at}
+use Rattle.data.specs.Runs.{digits_end_from, number_from, told}
 use Rattle.data.specs.Form.{characters_from}
 use Rattle.std.specs.Prelude.{Ok, Err}
+
+-- DIGITS
+
+pub digit-inside : (base : ℕ) (s : List ℕ) (at : ℕ) → base ≤ 16 → digit_at base s at ≡ true → at < length s
+digit-inside base s at b t = inside-digit s at (omega (arith, ltb-true (digit_of (get_or s at 0)) base t))
+
+pub digits_more : (n base : ℕ) (s : List ℕ) (at : ℕ) → base ≤ 16 → length s ≤ n + at → digit_at base s at ≡ true
+    → digits_end_from n base s at ≡ digits_end_from (n - 1) base s (at + 1)
+digits_more n base s at b l t = run_more (λ d. ltb (digit_of d) base) n s at (omega (arith, digit-inside base s at b t)) t
 
 -- NUMBERS
 

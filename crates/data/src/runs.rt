@@ -10,7 +10,7 @@ pub fn digits_end(s: &[u8], at: usize, base: u8) -> usize
     ensures { result ≡ digits_end base s.now at }
 {
     let is_digit = |b: &&u8| letters::digit_of(**b) < base;
-    at + s.iter().skip(at).take_while(is_digit).count()
+    at + s[at.min(s.len())..].iter().take_while(is_digit).count()
 }
 
 // A number, told no further than 65536.
