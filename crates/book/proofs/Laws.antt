@@ -1,16 +1,18 @@
 -- Laws on the definitions of the book: one for each test that fails, one for all that pass, and back.
-use Prim.Native.Nat.{ℕ, suc, ◌+◌, ◌*◌, ◌≤◌, ◌<◌}
+use Prim.Native.Nat.{ℕ, suc, ◌+◌, ◌-◌, ◌*◌, ◌≤◌, ◌<◌}
 use mathlib.Core.List.{List, [], ◌∷◌}
 use mathlib.Core.Path.{◌≡◌, refl}
 use mathlib.Core.Bool.{Bool, true, false}
 use native.Mathlib.Omega.{arith}
-use lib.ListN.{length}
+use lib.ListN.{length, take, drop}
 use lib.Dec.{leb}
-use borrow.Author.Tests.{lt-ltb, le-ltb, le-leb, lt-leb, leb-true}
+use borrow.Author.Tests.{lt-ltb, le-ltb, le-leb, lt-leb, eq-eqb, ne_eqb, leb-true}
+use Rattle.std.specs.Prelude.{None, Ok, Err}
 use Rattle.values.specs.Tests.{both}
 use Rattle.values.specs.Words.{part}
 use Rattle.values.proofs.Laws.{clash, held, both_false, both_true, part_length}
-use Rattle.book.specs.Book.{header_ok, Record, fields_fit, fair, record_ok, rest_head, record_head, rest_at, card_at, count_at, size_at, text_at, next_at, record_at}
+use Rattle.book.specs.Book.{header_ok, Record, fields_fit, fair, record_ok, rest_head, record_head, rest_at, card_at, address_at, count_at, size_at, text_at, next_at, record_at}
+use Rattle.book.specs.Reading.{step_at, place_at, behind, found, broken}
 
 -- THE HEADER
 
@@ -19,6 +21,14 @@ unfolding header_ok
 short_header s h = rw (lt-leb _ _ h)
 
 -- FIELDS
+
+pub fields-low : (least size o : ℕ) (os : List ℕ) → o < least → fields_fit least size (o ∷ os) ≡ false
+unfolding fields_fit
+fields-low least size o os h = rw (lt-leb _ _ h)
+
+pub fields_out : (least size o : ℕ) (os : List ℕ) → size < o + 2 → fields_fit least size (o ∷ os) ≡ false
+unfolding fields_fit
+fields_out least size o os h = simp (lt-leb _ _ h, both_false)
 
 pub fields-more : (least size o : ℕ) (os : List ℕ) → least ≤ o → o + 2 ≤ size → fields_fit least size (o ∷ os) ≡ fields_fit (o + 2) size os
 unfolding fields_fit
@@ -122,11 +132,20 @@ module _ (s : List ℕ) (at last : ℕ) where
   pub no_head : length s < at + 8 → record_ok s at last ≡ false
   no_head h = by_record (λ a b. unfair_none last (record_at s at) (omega (arith, text-length a b)))
 
+  pub no_text : rest_at s at ≤ rest_head + count_at s at → record_ok s at last ≡ false
+  no_text h = by_record (λ a b. unfair_none last (record_at s at) (omega (arith, text-length a b)))
+
   pub too_long : 256 < size_at s at → record_ok s at last ≡ false
   too_long h = by_record (λ a b. unfair_long last (record_at s at) (omega (arith, text-length a b)))
 
+  pub no_rise : card_at s at ≤ last → record_ok s at last ≡ false
+  no_rise h = by_record (λ a b. unfair_rise last (record_at s at) h)
+
   pub no_card : 4000 < card_at s at → record_ok s at last ≡ false
   no_card h = by_record (λ a b. unfair_card last (record_at s at) h)
+
+  pub too_high : 65536 < address_at s at + size_at s at → record_ok s at last ≡ false
+  too_high h = by_record (λ a b. unfair_high last (record_at s at) (omega (arith, text-length a b)))
 
   pub no_fields : fields_fit 0 (size_at s at) (part s (at + record_head) (count_at s at)) ≡ false → record_ok s at last ≡ false
   no_fields h = by_record (λ a b. unfair_fields last (record_at s at) (rw (text-length a b) h))
@@ -152,3 +171,42 @@ module _ (s : List ℕ) (at last : ℕ) where
       passed : (b : Bool) → fair last (record_at s at) ≡ b → fair last (record_at s at) ≡ true
       passed true h = h
       passed false h = let q = by_record (λ _ _. h) in clash (cc)
+
+  -- every test passed
+  pub all-passed : next_at s at ≤ length s → rest_head + count_at s at < rest_at s at → size_at s at ≤ 256 → last < card_at s at → card_at s at ≤ 4000
+      → address_at s at + size_at s at ≤ 65536 → fields_fit 0 (size_at s at) (part s (at + record_head) (count_at s at)) ≡ true → record_ok s at last ≡ true
+  all-passed rest count short rise card high inside =
+      let n = text-length rest (omega arith) in
+      is_whole (record {
+        rest = rest;
+        count = omega arith;
+        is = record { rise = rise; card = card; some = omega arith; short = omega arith; high = omega arith; inside = rw n inside };
+      })
+
+  -- the offsets as they are lent to the test of the fields
+  pub fields_lent : (rest count : ℕ) → rest ≡ rest_at s at → count ≡ count_at s at
+      → fields_fit 0 (rest - (rest_head + count)) (take (at + record_head + count - (at + record_head)) (drop (at + record_head) s)) ≡ fields_fit 0 (size_at s at) (part s (at + record_head) (count_at s at))
+  fields_lent rest count r n = let e : at + record_head + count_at s at - (at + record_head) ≡ count_at s at = omega arith in rw (r, n, e)
+
+  -- what the reader answers
+
+  pub step_end : at ≡ length s → (Ok None) ≡ step_at s at last
+  unfolding step_at
+  step_end h = rw (eq-eqb _ _ h)
+
+  pub step_broken : (at ≡ length s → ⊥) → record_ok s at last ≡ false → (Err broken) ≡ step_at s at last
+  unfolding step_at
+  step_broken n e = rw (ne_eqb _ _ n, e)
+
+  pub step_record : (at ≡ length s → ⊥) → record_ok s at last ≡ true → found (place_at s at) (behind s at) ≡ step_at s at last
+  unfolding step_at
+  step_record n e = rw (ne_eqb _ _ n, e)
+
+  -- the record from the numbers that were read
+  pub step-found : (rest card address count : ℕ) → rest ≡ rest_at s at → card ≡ card_at s at → address ≡ address_at s at → count ≡ count_at s at
+      → (at ≡ length s → ⊥) → record_ok s at last ≡ true
+      → found
+      (record { card = card; address = record { 0 = address }; fields = at + record_head; count = count; text = at + record_head + count; size = rest - (rest_head + count) })
+      (record { at = at + 2 + rest; card = card })
+      ≡ step_at s at last
+  step-found rest card address count r c a n h e = rw (r, c, a, n) (step_record h e)

@@ -3,12 +3,13 @@ use Prim.Native.Nat.{ℕ, zero, suc, ◌+◌, ◌-◌, ◌≤◌, ◌<◌}
 use mathlib.Core.List.{List, [], ◌∷◌}
 use mathlib.Core.Path.{◌≡◌, refl, sym, ap, subst, ◌∙◌}
 use mathlib.Core.Bool.{Bool, true, false}
-use Rattle.std.specs.Prelude.{Option, None, Some, Ok, Err}
+use Rattle.std.specs.Prelude.{Option, None, Some, Result, Ok, Err}
 use native.Mathlib.Omega.{arith}
 use lib.ListN.{length}
 use lib.Dec.{eqb}
 use borrow.Author.Tests.{eq-eqb, ne_eqb, eqb-true, eqb-false}
 use Rattle.values.specs.Tests.{pick}
+use Rattle.book.specs.declared.Broken.{Broken}
 use Rattle.book.specs.declared.Cursor.{Cursor}
 use Rattle.book.specs.declared.Place.{Place}
 use Rattle.book.specs.Book.{Record, Book, records_from, onto, header_ok, entry_at, with_entry, book_of, record_head, count_at, record_at, record_ok, card_at, next_at}
@@ -54,8 +55,11 @@ module _ (s : List ℕ) (at last : ℕ) where
 -- what is known of a record that the reader gave
 pub record Gave (s : List ℕ) (at last : ℕ) (p : Place) (c : Cursor) : Type 0 where
   pub sound : Sound s p
+  pub is : record_at s at ≡ record_there s p
   pub on : at < c.at
   pub within : c.at ≤ length s
+  pub rise : last < p.card
+  pub same : c.card ≡ p.card
 
 pub gave : (s : List ℕ) (at last : ℕ) (p : Place) (c : Cursor) → found p c ≡ step_at s at last → Gave s at last p c
 gave s at last p c e =
@@ -77,8 +81,11 @@ gave s at last p c e =
         high = omega arith;
         inside = rw l at f.inside;
       };
+      is = refl;
       on = omega arith;
       within = w.rest;
+      rise = omega arith;
+      same = refl;
     })
 
 -- A TURN
@@ -178,6 +185,16 @@ module _ (s : List ℕ) (e : Option Relocatable) (at last : ℕ) (l : LayoutLeft
       let (f, enough, same) = l in
       sym (same ∙ ap (λ o. layout_in (with_entry e o)) (turn_broken s at last f q))
 
+-- A LOOP OVER THE RECORDS OF A BOOK THAT KEEPS ITS LAYOUT
+
+-- the records from a place on are some records, of which P holds
+abbrev pub Left : List ℕ → ℕ → ℕ → (List Record → Type 0) → Type 0
+Left s at last P = (f : ℕ) × (rs : List Record) × (records_from f s at last ≡ Some rs) × P rs
+
+out_of_bound : (s : List ℕ) (at last : ℕ) (rs : List Record) → records_from zero s at last ≡ Some rs → ⊥
+unfolding records_from
+out_of_bound s at last rs q = clash (cc)
+
 -- THE BOOK OF A LAYOUT
 
 pub book-none : (s : List ℕ) → (Err broken) ≡ layout_of s → book_of s ≡ None
@@ -216,3 +233,41 @@ module _ (s : List ℕ) (e : Option Relocatable) (q : Ok e ≡ layout_of s) wher
           let same : ◌≡◌ {A = Book} (record { entry = entry_at s; records = rs }) (record { entry = e; records = records_in s }) = cc in
           h ∙ ap (λ (b : Book). Some b.records) same
       go false o h k = clash (cc)
+
+  pub start : (P : List Record → Type 0) → P (records_in s) → Left s 8 0 P
+  start P p = (length s, records_in s, records-are, p)
+
+module _ (s : List ℕ) (at last : ℕ) (P : List Record → Type 0) (l : Left s at last P) where
+  -- a record is there: it is the first of those left
+  pub onward : (p : Place) (c : Cursor) (Q : List Record → Type 0) → found p c ≡ step_at s at last
+      → ((rest : List Record) → P (record_there s p ∷ rest) → Q rest) → Left s c.at c.card Q
+  onward p c Q q step = let (f, rs, is, holds) = l in go f rs is holds
+    where
+      there : (f : ℕ) (rs : List Record) (o : Option (List Record)) → records_from f s c.at c.card ≡ o → onto (record_there s p) o ≡ Some rs → P rs → Left s c.at c.card Q
+      there f rs None h k holds = clash (cc)
+      there f rs (Some rest) h k holds = (f, rest, h, step rest (subst P (cc) holds))
+
+      go : (f : ℕ) (rs : List Record) → records_from f s at last ≡ Some rs → P rs → Left s c.at c.card Q
+      go zero rs is holds = absurd (out_of_bound s at last rs is)
+      go (suc f) rs is holds = there f rs (records_from f s c.at c.card) refl (sym (turn_record s at last f p c q) ∙ is) holds
+
+  pub first : (p : Place) (c : Cursor) → found p c ≡ step_at s at last → (rest : List Record) × P (record_there s p ∷ rest)
+  first p c q =
+      let (f, rest, is, holds) = onward p c (λ rest. P (record_there s p ∷ rest)) q (λ rest h. h) in
+      (rest, holds)
+
+  pub ended : (Ok None) ≡ step_at s at last → P []
+  ended q = let (f, rs, is, holds) = l in go f rs is holds
+    where
+      go : (f : ℕ) (rs : List Record) → records_from f s at last ≡ Some rs → P rs → P []
+      go zero rs is holds = absurd (out_of_bound s at last rs is)
+      go (suc f) rs is holds = subst P (cc (turn_end s at last f q)) holds
+
+  pub never : (Err broken) ≡ step_at s at last → ⊥
+  never q = let (f, rs, is, holds) = l in let e = turn_broken s at last f q in clash (cc)
+
+  -- the reader gave none: it is the end
+  pub no_record : (x : Result (Option (Place × Cursor)) Broken) → ((p : Place) (c : Cursor) → x ≡ found p c → ⊥) → x ≡ step_at s at last → P []
+  no_record (Ok (Some (p, c))) n q = absurd (n p c refl)
+  no_record (Ok None) n q = ended q
+  no_record (Err _) n q = absurd (never q)

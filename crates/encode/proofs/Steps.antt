@@ -3,11 +3,16 @@ use Prim.Native.Nat.{ℕ, zero, suc, ◌+◌, ◌-◌, ◌*◌, ◌/◌, ◌%◌
 use mathlib.Core.List.{List, [], ◌∷◌, ◌++◌}
 use mathlib.Core.Path.{◌≡◌, refl, sym, ap, ◌∙◌}
 use mathlib.Core.Bool.{Bool, true, false}
+use mathlib.Core.Logic.{inl, inr}
 use native.Mathlib.Omega.{arith}
 use lib.ListN.{length, set, length-append}
 use lib.Seq.{sets}
 use lib.Dec.{eqb}
+use borrow.Author.Tests.{eq-eqb, ne_eqb}
+use types.Run.{OneOf, miss}
+use denote.Enum.Declared.{tag_of}
 use Rattle.values.specs.Tests.{pick}
+use Rattle.values.specs.Words.{two_bytes}
 use Rattle.values.specs.declared.Value.{Value}
 use Rattle.values.specs.declared.Value.TheVariants.{Absolute, Relocatable}
 use Rattle.values.proofs.Laws.{sets_append}
@@ -18,10 +23,11 @@ use Rattle.operations.specs.Codes.{operation_byte}
 use Rattle.places.specs.declared.Operand.{Operand}
 use Rattle.places.specs.declared.Operand.TheVariants.{Direct, Indexed}
 use Rattle.statements.specs.declared.Statement.{Statement}
+use Rattle.statements.specs.contracts.Statement.{the_type}
 use Rattle.places.specs.Places.{operand_size}
 use Rattle.encode.specs.Pieces.{Piece, text_of, offsets_from, fields_of, mode_of, operand_pieces, address_pieces, copied, pieces_of}
 use Rattle.encode.specs.Pieces.Piece.{plain, value}
-use Rattle.encode.specs.Steps.{constant_size, value_count, constant_count, two_apart}
+use Rattle.encode.specs.Steps.{constant_size, value_count, operand_count, constant_count, two_apart}
 use Rattle.encode.proofs.Laws.{text_append, fields_append, copied_more, copied_none, copied-size}
 
 -- OPERANDS
@@ -31,7 +37,38 @@ unfolding text_of
 operand-size (Direct v) = refl
 operand-size (Indexed v r d) = refl
 
+pub operand-count : (at : ℕ) (x : Operand) → length (offsets_from at (operand_pieces x)) ≡ operand_count x
+unfolding offsets_from
+operand-count at (Direct (Absolute a)) = refl
+operand-count at (Direct (Relocatable a)) = refl
+operand-count at (Indexed v r d) = refl
+
+pub operand_field : (at : ℕ) (x : Operand) → operand_count x ≡ 1 → offsets_from at (operand_pieces x) ≡ at ∷ []
+unfolding offsets_from
+operand_field at (Direct (Absolute a)) e = absurd (omega arith)
+operand_field at (Direct (Relocatable a)) e = refl
+operand_field at (Indexed v r d) e = absurd (omega arith)
+
+pub operand-none : (at : ℕ) (x : Operand) → (operand_count x ≡ 1 → ⊥) → offsets_from at (operand_pieces x) ≡ []
+unfolding offsets_from
+operand-none at (Direct (Absolute a)) n = refl
+operand-none at (Direct (Relocatable a)) n = absurd (n refl)
+operand-none at (Indexed v r d) n = refl
+
 -- ADDRESS CONSTANTS
+
+module _ (m : ℕ) (v : Value) where
+  pub address-one : m ≡ 1 → text_of (address_pieces m v) ≡ amount_of v % 256 ∷ []
+  unfolding address_pieces text_of
+  address-one e = rw (eq-eqb m 1 e)
+
+  pub address_three : (m ≡ 1 → ⊥) → m ≡ 3 → text_of (address_pieces m v) ≡ 0 ∷ two_bytes (amount_of v)
+  unfolding address_pieces text_of
+  address_three n e = rw (ne_eqb m 1 n, eq-eqb m 3 e)
+
+  pub address-two : (m ≡ 1 → ⊥) → (m ≡ 3 → ⊥) → text_of (address_pieces m v) ≡ two_bytes (amount_of v)
+  unfolding address_pieces text_of
+  address-two n k = rw (ne_eqb m 1 n, ne_eqb m 3 k)
 
 pub constant-size : (m : ℕ) (v : Value) → length (text_of (address_pieces m v)) ≡ constant_size m
 unfolding address_pieces text_of
@@ -101,9 +138,38 @@ pub two_fields : (op : Operation) (q : ℕ) (a b : Operand)
 unfolding pieces_of offsets_from
 two_fields op q a b = fields_append 2 (operand_pieces a) (operand_pieces b) ∙ rw (operand-size a)
 
+pub one-fields : (op : Operation) (q : ℕ) (a : Operand) → fields_of (pieces_of (Statement.OneAddress op q a)) ≡ offsets_from 2 (operand_pieces a)
+unfolding pieces_of offsets_from
+one-fields op q a = refl
+
 pub addresses_fields : (n m : ℕ) (v : Value) → fields_of (pieces_of (Statement.AddressConstants n m v)) ≡ fields_of (copied n (address_pieces m v))
 unfolding pieces_of
 addresses_fields n m v = refl
+
+pub none-fields : fields_of (pieces_of Statement.NoBytes) ≡ []
+unfolding pieces_of offsets_from
+none-fields = refl
+
+-- a jump and no statement have no field
+pub fieldless : (s : Statement) → OneOf (2 ∷ 4 ∷ []) (tag_of the_type s) → fields_of (pieces_of s) ≡ []
+unfolding pieces_of offsets_from
+fieldless (Statement.TwoAddresses op q a b) k = absurd (miss (2 ∷ 4 ∷ []) 0 tt k)
+fieldless (Statement.OneAddress op q a) k = absurd (miss (2 ∷ 4 ∷ []) 1 tt k)
+fieldless (Statement.Jump q byte) k = refl
+fieldless (Statement.AddressConstants n m v) k = absurd (miss (2 ∷ 4 ∷ []) 3 tt k)
+fieldless Statement.NoBytes k = refl
+
+-- they are what is left of the other three
+pub fieldless_left : (s : Statement)
+    → ((op : Operation) (q : ℕ) (a b : Operand) → s ≡ Statement.TwoAddresses op q a b → ⊥)
+    → ((op : Operation) (q : ℕ) (a : Operand) → s ≡ Statement.OneAddress op q a → ⊥)
+    → ((n m : ℕ) (v : Value) → s ≡ Statement.AddressConstants n m v → ⊥)
+    → OneOf (2 ∷ 4 ∷ []) (tag_of the_type s)
+fieldless_left (Statement.TwoAddresses op q a b) two one more = absurd (two op q a b refl)
+fieldless_left (Statement.OneAddress op q a) two one more = absurd (one op q a refl)
+fieldless_left (Statement.Jump q byte) two one more = inl refl
+fieldless_left (Statement.AddressConstants n m v) two one more = absurd (more n m v refl)
+fieldless_left Statement.NoBytes two one more = inr refl
 
 -- SIZES AND COUNTS
 
@@ -119,6 +185,12 @@ one_size op q a = ap length (one-text op q a) ∙ omega (arith, operand-size a)
 pub constants_size_lem : (n m : ℕ) (v : Value) → length (text_of (pieces_of (Statement.AddressConstants n m v))) ≡ n * constant_size m
 constants_size_lem n m v = ap length (addresses_text n m v) ∙ copied-size n (address_pieces m v) ∙ ap (λ k. n * k) (constant-size m v)
 
+pub two-count : (op : Operation) (q : ℕ) (a b : Operand) → length (fields_of (pieces_of (Statement.TwoAddresses op q a b))) ≡ operand_count a + operand_count b
+two-count op q a b =
+    let t = ap length (two_fields op q a b) in
+    let n = length-append (offsets_from 2 (operand_pieces a)) (offsets_from (2 + operand_size a) (operand_pieces b)) in
+    t ∙ omega (arith, operand-count 2 a, operand-count (2 + operand_size a) b)
+
 pub addresses_count : (n m : ℕ) (v : Value) → length (fields_of (pieces_of (Statement.AddressConstants n m v))) ≡ constant_count n m v
 addresses_count n m v = ap length (addresses_fields n m v ∙ address_fields n m v 0) ∙ apart-length (constant_count n m v) 0
 
@@ -132,14 +204,18 @@ copies_room n i m v h =
     ap length (copied_more (n - i) (address_pieces m v) (omega arith)) ∙ length-append (text_of (address_pieces m v)) (text_of (copied (n - i - 1) (address_pieces m v)))
     ∙ rw (constant-size m v, one)
 
--- a copy laid, and those behind it
+-- a copy of any pieces laid, and those behind it
+pub copies_behind : (m p : List ℕ) (at n w : ℕ) (ps : List Piece) → 0 < n → p ≡ sets m at (text_of ps) → length (text_of ps) ≡ w
+    → sets m at (text_of (copied n ps)) ≡ sets p (at + w) (text_of (copied (n - 1) ps))
+copies_behind m p at n w ps h e l = rw (copied_more n ps h, e, sym l) (sets_append m at (text_of ps) (text_of (copied (n - 1) ps)))
+
+-- .. of an address constant, in a turn that has i behind it
 pub copies_more : (l p : List ℕ) (at n i m : ℕ) (v : Value) → i < n → p ≡ sets l at (text_of (address_pieces m v))
     → sets l at (text_of (copied (n - i) (address_pieces m v))) ≡ sets p (at + constant_size m) (text_of (copied (n - (i + 1)) (address_pieces m v)))
 copies_more l p at n i m v h e =
     let one : n - i - 1 ≡ n - (i + 1) = omega arith in
-    let less : 0 < n - i = omega arith in
-    rw (copied_more (n - i) (address_pieces m v) less, e, one, sym (constant-size m v))
-    (sets_append l at (text_of (address_pieces m v)) (text_of (copied (n - (i + 1)) (address_pieces m v))))
+    copies_behind l p at (n - i) (constant_size m) (address_pieces m v) (omega arith) e (constant-size m v)
+    ∙ ap (λ k. sets p (at + constant_size m) (text_of (copied k (address_pieces m v)))) one
 
 pub copies_done : (m : List ℕ) (at n : ℕ) (ps : List Piece) → n ≤ 0 → sets m at (text_of (copied n ps)) ≡ m
 copies_done m at n ps h = rw (copied_none n ps h)

@@ -220,6 +220,10 @@ module _ (s : List ℕ) (q : ℕ) where
   unfolding product_at
   product-more r e = rw e
 
+  pub product_fail : (r : ℕ) → end_of (term_at s q) ≡ Err r → product_at s q ≡ fails r
+  unfolding product_at
+  product_fail r e = rw e
+
 -- the same of the positions alone
 module _ (s : List ℕ) where
   pub form_factors : (q r : ℕ) → stands "*" s q ≡ true → end_of (term_at s (q + 1)) ≡ Ok r → form_of (factors_at s q) ≡ form_of (factors_at s r)
@@ -249,6 +253,16 @@ module _ (s : List ℕ) where
           → form_of (onto_products minus x (λ q. pick (joins s q) (products_at (stands "-" s q) s (q + 1)) (up_to [] q))) ≡ form_behind (form_of x)
       go (up_to x q) = on x q (joins s q)
       go (fails q) = refl
+
+  module _ (minus : Bool) (p q : ℕ) where
+    pub form_more : joins s q ≡ true → form_of (product_at s p) ≡ Ok q → form_of (products_at minus s p) ≡ form_of (products_at (stands "-" s q) s (q + 1))
+    form_more j e = form_products minus p ∙ rw (e, j)
+
+    pub form_last : joins s q ≡ false → form_of (product_at s p) ≡ Ok q → form_of (products_at minus s p) ≡ Ok q
+    form_last j e = form_products minus p ∙ rw (e, j)
+
+    pub form_fail : form_of (product_at s p) ≡ Err q → form_of (products_at minus s p) ≡ Err q
+    form_fail e = form_products minus p ∙ rw e
 
   -- a sign here, and a product behind it
   pub form_on : (q : ℕ) → joins s q ≡ true → form_behind (Ok q) ≡ form_behind (form_of (product_at s (q + 1)))

@@ -18,7 +18,7 @@ use Rattle.expressions.specs.Form.{Placed, Product, Addend, Read, form_of, end_o
 use Rattle.expressions.specs.Form.Read.{up_to, fails}
 use Rattle.expressions.specs.Value.{factor_of, factor_at, product_factors, addend_factors, if_plus, if_minus, counted, evaluated}
 use Rattle.expressions.specs.Steps.{begun, multiplied, multiplied_all, held, held_on, held_at, nothing, run_on, run_all, ended, run_from}
-use Rattle.expressions.proofs.Reading.{factors_more, factors_fail, factors_stop, product-more, product-within, products_are}
+use Rattle.expressions.proofs.Reading.{factors_more, factors_fail, factors_stop, product-more, product_fail, product-within, products_are}
 use Rattle.expressions.proofs.Same.{ended_same}
 use Rattle.std.specs.Result.{result_ok}
 use Rattle.std.specs.Option.{ok_or}
@@ -68,6 +68,10 @@ module _ (look : ℕ → Option Meaning) (here : ℕ) (s : List ℕ) where
       go : (k : Read (List Placed)) → held_at look here (onto_factors (placed_at s p) k) ≡ held_on look here (begun (factor_at look here (term_at s p))) k
       go (up_to xs m) = refl
       go (fails m) = refl
+
+  pub product-none : (p q : ℕ) → end_of (term_at s p) ≡ Err q → held_at look here (product_at s p) ≡ None
+  unfolding held_at
+  product-none p q e = rw (product_fail s p q e)
 
   -- a product that was worked out ends behind its position and inside the columns
   pub product_inside : (p : ℕ) (h : Held) (q : ℕ) → held_at look here (product_at s p) ≡ Some (h, q) → (p < q) × (q ≤ length s)

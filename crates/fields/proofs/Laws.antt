@@ -16,9 +16,11 @@ use Rattle.values.specs.declared.Displacement.{Displacement}
 use Rattle.values.specs.declared.Relocatable.{Relocatable}
 use Rattle.values.proofs.Sums.{moved_to}
 use Rattle.values.proofs.Laws.{clash, both_true, drop_turn, sets_over, sets-sets}
-use Rattle.book.proofs.Places.{text-length}
+use Rattle.book.proofs.Places.{fields-length, text-length}
 use Rattle.book.specs.Book.{Record, fields_fit}
+use Rattle.book.specs.Reading.{record_there, Sound}
 use Rattle.book.specs.Records.{record_of}
+use Rattle.book.specs.declared.Place.{Place}
 use Rattle.book.specs.declared.record.Record.{Record as Lent}
 use Rattle.fields.specs.Fields.{field_in, with_field, is_over, moved_in, over_in, moved_text}
 use Rattle.std.specs.Prelude.{Option, Some, None}
@@ -57,6 +59,16 @@ offset_turn r lent i o same h e =
 pub offsets_done : (r : Lent) (lent : List ℕ) (i : ℕ) → lent ≡ (record_of r).fields → length lent ≤ i → drop i (record_of r).fields ≡ []
 offsets_done r lent i same h = let same-length = ap length same in drop_of_length-le (record_of r).fields {i = i} (omega arith)
 
+module _ (s : List ℕ) (p : Place) (ok : Sound s p) where
+  -- the offsets left, the one at hand first; and none left
+  pub fields_left : (i o : ℕ) → i < p.count → o ≡ get_or (record_there s p).fields i 0 → drop i (record_there s p).fields ≡ o ∷ drop (i + 1) (record_there s p).fields
+  fields_left i o h e =
+      let n = fields-length s p ok in
+      drop_turn (record_there s p).fields i (omega arith) ∙ ap (λ x. x ∷ drop (i + 1) (record_there s p).fields) (sym e)
+
+  pub fields_done : (i : ℕ) → p.count ≤ i → drop i (record_there s p).fields ≡ []
+  fields_done i h = let n = fields-length s p ok in drop_of_length-le (record_there s p).fields {i = i} (omega arith)
+
 -- A SUM
 
 -- a value and a displacement whose sum is low enough
@@ -67,6 +79,10 @@ moved-low d v h = rw (le-leb _ _ h)
 -- A TURN
 
 module _ (d : Displacement) where
+  pub over-here : (text : List ℕ) (o : ℕ) (os : List ℕ) → None ≡ moved_by d (field_in text o) → over_in d text (o ∷ os) ≡ true
+  unfolding over_in
+  over-here text o os e = rw (← e)
+
   pub over-later : (text : List ℕ) (o : ℕ) (os : List ℕ) (v : Relocatable) → Some v ≡ moved_by d (field_in text o) → over_in d text (o ∷ os) ≡ over_in d text os
   unfolding over_in
   over-later text o os v e = rw (← e)

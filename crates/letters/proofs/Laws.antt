@@ -204,3 +204,10 @@ unfolding class_of is_from_to text-below
 class_past b h =
     rw
     (le-leb 65 b (omega arith), lt-leb b 90 (omega arith), past_text 125 "$#@" b refl h, le-leb 48 b (omega arith), lt-leb b 57 (omega arith), ne_eqb b 32 (λ e. omega arith), past_text 125 ".<(+|&!*);-/,%_>?:'=\"" b refl h)
+
+pub code_positive : (b : ℕ) → is_accepted (class_of b) ≡ true → 0 < code_of b
+code_positive b e =
+    elim (dec_le 125 b) [
+      | yes past ↦ let f : is_accepted Refused ≡ true = ap is_accepted (sym (class_past b past)) ∙ e in clash (cc)
+      | no within ↦ ltb-true 0 (code_of b) (rw e at (class_agrees b (omega arith)))
+    ]

@@ -21,6 +21,16 @@ module _ (goes : ℕ → Bool) where
   run_more zero s at h e = absurd (not-suc-le-zero h)
   run_more (suc n) s at h e = rw (e, sub-one)
 
+  pub run_stop : (n : ℕ) (s : List ℕ) (at : ℕ) → goes (get_or s at 0) ≡ false → run_end goes n s at ≡ at
+  unfolding run_end
+  run_stop zero s at e = refl
+  run_stop (suc n) s at e = rw e
+
+  pub run_none : (n : ℕ) (s : List ℕ) (at : ℕ) → n ≤ 0 → run_end goes n s at ≡ at
+  unfolding run_end
+  run_none zero s at h = refl
+  run_none (suc n) s at h = absurd (not-suc-le-zero h)
+
   -- it ends where it starts or behind, and at most n further on
   pub run_bounds : (n : ℕ) (s : List ℕ) (at : ℕ) → (at ≤ run_end goes n s at) × (run_end goes n s at ≤ at + n)
   unfolding run_end

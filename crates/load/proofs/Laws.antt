@@ -7,7 +7,7 @@ use mathlib.Core.Logic.{◌⊎◌, inl, inr}
 use native.Mathlib.Omega.{arith}
 use lib.ListN.{length}
 use lib.Seq.{sets}
-use borrow.Author.Tests.{ltb-false}
+use borrow.Author.Tests.{eq-eqb, ne_eqb, ltb-false}
 use Rattle.values.specs.Tests.{pick}
 use Rattle.values.specs.declared.Displacement.{Displacement}
 use Rattle.values.specs.declared.Relocatable.{Relocatable}
@@ -20,14 +20,14 @@ use Rattle.book.specs.declared.record.Record.{Record as Lent}
 use Rattle.std.specs.List.{find}
 use Rattle.std.specs.Option.{MatchOption, IsSomeAnd, option_map, unwrap_or}
 use Rattle.book.proofs.Turns.{book-none, book-is}
-use Rattle.fields.specs.Fields.{moved_text}
+use Rattle.fields.specs.Fields.{over_field, moved_text}
 use Rattle.fields.proofs.Laws.{moved-low}
 use Rattle.values.proofs.Sums.{moved_to}
 use Rattle.values.proofs.Laws.{clash}
 use Rattle.load.specs.declared.Stored.{Stored}
 use Rattle.load.specs.declared.LoadError.{LoadError}
-use Rattle.load.specs.declared.LoadError.TheVariants.{Broken}
-use Rattle.load.specs.Load.{Outcome, first_card, moved_address, outside_at, outside, room_in, stored_at, stored, stored_all, bytes_stored, refused, judged, loading}
+use Rattle.load.specs.declared.LoadError.TheVariants.{Broken, Outside, Over}
+use Rattle.load.specs.Load.{Outcome, first_card, moved_address, outside_at, outside, room_in, stored_at, stored, stored_all, bytes_stored, refused, judged_entry, judged, loading}
 use Rattle.std.specs.Prelude.{Option, Some, None, Result, Ok, Err}
 use Rattle.book.specs.Reading.{broken}
 
@@ -162,6 +162,18 @@ still-first d room whole sum m m' count size r rest s card n is =
       inside = (none-fails (outside d room) r rest card s.inside).1;
     }
 
+-- .. where no record that is left has a field that is over
+pub record StillUnder (d : Displacement) (room : ℕ) (whole : List ℕ) (sum : ℕ) (m : List ℕ) (count : ℕ) (rs : List Record) : Type 0 where
+  pub still : Still d room whole sum m count rs
+  pub under : first_card (over_field d) rs ≡ 0
+
+pub still-under : (d : Displacement) (room : ℕ) (whole : List ℕ) (sum : ℕ) (m m' : List ℕ) (count size : ℕ) (r : Record) (rest : List Record)
+    → StillUnder d room whole sum m count (r ∷ rest) → 1 ≤ r.card → length r.text ≡ size → m' ≡ stored d r m → StillUnder d room whole sum m' (count + size) rest
+still-under d room whole sum m m' count size r rest s card n is = record {
+  still = still-first d room whole sum m m' count size r rest s.still card n is;
+  under = (none-fails (over_field d) r rest card s.under).1;
+}
+
 -- at most 256 bytes for each card
 bytes_most : (rs : List Record) (last : ℕ) → fair_all last rs ≡ true → last ≤ 4000 → bytes_stored rs + 256 * last ≤ 1024000
 unfolding bytes_stored
@@ -179,6 +191,20 @@ bytes_fit s (e, q) =
     omega arith
 
 -- THE OUTCOMES
+
+module _ (e : Option Relocatable) (d : Displacement) (rs : List Record) (m : List ℕ) where
+  pub is-outside : (first_card (outside d (room_in m)) rs ≡ 0 → ⊥) → judged e d rs m ≡ refused (Outside (first_card (outside d (room_in m)) rs)) m
+  unfolding judged
+  is-outside n = rw (ne_eqb _ _ n)
+
+  module _ (inside : first_card (outside d (room_in m)) rs ≡ 0) where
+    pub is-over : (first_card (over_field d) rs ≡ 0 → ⊥) → judged e d rs m ≡ refused (Over (first_card (over_field d) rs)) m
+    unfolding judged
+    is-over n = rw (eq-eqb _ _ inside, ne_eqb _ _ n)
+
+    pub is_admitted : first_card (over_field d) rs ≡ 0 → judged e d rs m ≡ judged_entry e d rs m
+    unfolding judged
+    is_admitted u = rw (eq-eqb _ _ inside, eq-eqb _ _ u)
 
 -- an answer and a storage that are an outcome's
 pub by_outcome : (o p : Outcome) (r : Result Stored LoadError) (m : List ℕ) → o ≡ p → r ≡ p.answer → m ≡ p.storage → (r ≡ o.answer) × (m ≡ o.storage)

@@ -21,10 +21,10 @@ use Rattle.values.specs.Tests.{pick, both}
 use Rattle.letters.proofs.Every.{every, at}
 use Rattle.mnemonics.specs.Rows.{letters_of, five, number5, Row, operation_in}
 use Rattle.mnemonics.specs.Model10.{own_operations, two_addresses, one_addresses, branches, jumps, extended_moves, extended_branches, extended_jumps, model10}
-use Rattle.mnemonics.specs.Sorted.{key_at, row_from, row_in, inserted, sorted, sorted_letters, sorted_operations}
+use Rattle.mnemonics.specs.Sorted.{key_at, row_from, row_in, Rising, inserted, sorted, sorted_letters, sorted_operations}
 use Rattle.operations.specs.declared.Operation.{Operation}
 use Rattle.operations.specs.declared.Operation.TheVariants.{Unknown}
-use Rattle.mnemonics.proofs.Search.{row-none}
+use Rattle.mnemonics.proofs.Search.{row-none, row-found, rises, rising_by}
 use Rattle.values.proofs.Laws.{clash, both_true, Bytes, base256-same}
 
 -- THE LETTERS ASCEND, AND ARE FIVE BYTES IN EACH ROW
@@ -54,6 +54,15 @@ five_bytes_everywhere = refl
 sorted-length : length sorted_letters ≡ steps + 1
 unfolding steps sorted_letters sorted inserted model10 own_operations two_addresses one_addresses branches jumps extended_moves extended_branches extended_jumps letters_of number5
 sorted-length = refl
+
+-- THEIR NUMBERS RISE, SO THAT NO ROW IS THERE TWICE
+
+rises_everywhere : every (rises sorted_letters) 0 steps ≡ true
+unfolding steps every sorted_letters sorted inserted model10 own_operations two_addresses one_addresses branches jumps extended_moves extended_branches extended_jumps letters_of number5
+rises_everywhere = refl
+
+pub sorted_rising : Rising sorted_letters
+sorted_rising = rising_by sorted_letters steps sorted-length rises_everywhere
 
 -- EACH ROW IS WHAT THE LIST SAYS OF ITS LETTERS
 
@@ -101,6 +110,20 @@ not_in_rows ls (r ∷ rs) key e h =
         let at_key : row_in ls (number5 r.letters) ≡ row_in ls key = ap (row_in ls) same in
         absurd (omega arith)
     go false q ih = ih
+
+-- what stands beside the row of a number is what the list says of the number
+pub by_row : (key : ℕ) → get_or sorted_operations (row_in sorted_letters key) Unknown ≡ operation_in model10 key
+by_row key =
+    elim (dec_le (length sorted_letters) (row_in sorted_letters key)) [
+      | yes past ↦
+          row-operation (row_in sorted_letters key)
+          ∙ ap said (get_or-eq_default sorted_letters [] past)
+          ∙ none_empty
+          ∙ sym (not_in_rows sorted_letters model10 key all_in_rows past)
+      | no there ↦
+          row-operation (row_in sorted_letters key)
+          ∙ ap (operation_in model10) (row-found sorted_letters key (length sorted_letters) 0 (omega arith))
+    ]
 
 -- NO MNEMONIC TWICE
 

@@ -1,5 +1,5 @@
 -- The code's table of the operations of a Model 10: the rows in the order of their letters' ASCII bytes.
-use Rattle.std.specs.Prelude.{ℕ, zero, suc, ◌+◌, List, [], ◌∷◌, map, length, get_or, ltb, eqb}
+use Rattle.std.specs.Prelude.{ℕ, zero, suc, ◌+◌, ◌<◌, List, [], ◌∷◌, map, length, get_or, ltb, eqb}
 use Rattle.values.specs.Tests.{pick}
 use Rattle.mnemonics.specs.Rows.{number5, Row}
 use Rattle.mnemonics.specs.Model10.{model10}
@@ -16,6 +16,10 @@ row_from (suc n) rows key i = pick (eqb (key_at rows i) key) i (row_from n rows 
 
 abbrev pub row_in : List (List ℕ) → ℕ → ℕ
 row_in rows key = row_from (length rows) rows key 0
+
+-- rows whose numbers rise, so that none is there twice
+abbrev pub Rising : List (List ℕ) → Type 0
+Rising rows = (i j : ℕ) → i < j → j < length rows → key_at rows i < key_at rows j
 
 -- a row more, before the first with higher letters
 unfoldable pub inserted : Row → List Row → List Row

@@ -7,8 +7,9 @@ use mathlib.Core.Path.{◌≡◌, refl, sym, ap, ◌∙◌}
 use native.Mathlib.Nat.{add-zero, not-suc-le-zero, lt_of_not-le}
 use native.Mathlib.Decide.{dec_le}
 use native.Mathlib.Omega.{arith}
-use lib.ListN.{length, get_or, take, drop, length-append, get_or-append}
-use lib.Seq.{sets, sets-eq, take-append-le, take-take, drop_at, drop-drop, get_or-take, get_or-append-add, length-take-le}
+use lib.ListN.{length, get_or, take, drop, set, length-append, get_or-append, take-append-drop}
+use lib.Seq.{sets, sets-eq, take-append-le, take-take, drop_at, take-suc, drop-cons, drop-drop, set_at, append_snoc, get_or-take, get_or-append-add, length-take-le}
+use borrow.Author.Fill.{fill_more}
 use lib.Dec.{ltb}
 use borrow.Author.Tests.{lt-ltb, ltb-true, ltb-false}
 use Rattle.std.specs.Simd.{first_chunks}
@@ -288,7 +289,39 @@ module _ (n : ℕ) (t : List ℕ) (x : Name) (fits : 16 * n + 16 ≤ length t) (
   rest-defined i low =
       ap (drop (16 * n + 16)) (stored_is t (16 * i) (16 * n) (name_bytes x) (name-long x) (omega arith) fits) ∙ stored-rest t (16 * i) (16 * n) (name_bytes x) (name-long x) (omega arith) fits
 
+-- GOING UP BY 16
+
+pub shift_none : (t : List ℕ) (to : ℕ) → t ≡ shifted to to t
+unfolding shifted
+shift_none t to = let e : to - to ≡ 0 = omega arith in rw e (sym (take-append-drop (to + 16) t))
+
+pub shift_turn : (t : List ℕ) (at to : ℕ) → 0 < at → at ≤ to → to + 16 ≤ length t
+    → set (shifted at to t) (at - 1 + 16) (get_or (shifted at to t) (at - 1) 0) ≡ shifted (at - 1) to t
+unfolding shifted
+shift_turn t at to h l f =
+    let r = part t at (to - at) ++ drop (to + 16) t in
+    let e : at + 16 ≡ suc (at - 1 + 16) = omega arith in
+    let p = length-take-le (at - 1 + 16) t (omega arith) in
+    let w = length-take-le (at + 16) t (omega arith) in
+    let s = take-suc t (at - 1 + 16) 0 (omega arith) in
+    let v : get_or (take (at + 16) t ++ r) (at - 1) 0 ≡ get_or t (at - 1) 0 = get_or-append (take (at + 16) t) r 0 (at - 1) (omega arith) ∙ get_or-take (at + 16) t (at - 1) 0 (omega arith) in
+    let o : take (at + 16) t ++ r ≡ take (at - 1 + 16) t ++ get_or t (at - 1 + 16) 0 ∷ r =
+    rw (e, s) (append_snoc (take (at - 1 + 16) t) (get_or t (at - 1 + 16) 0) r) in
+    let m : to - (at - 1) ≡ suc (to - at) = omega arith in
+    let a : suc (at - 1) ≡ at = omega arith in
+    let d = drop-cons t (at - 1) 0 (omega arith) in
+    let q : get_or t (at - 1) 0 ∷ r ≡ part t (at - 1) (to - (at - 1)) ++ drop (to + 16) t = rw (m, d, a) in
+    rw (v, o) (set_at (take (at - 1 + 16) t) (get_or t (at - 1 + 16) 0) r (get_or t (at - 1) 0) (at - 1 + 16) p ∙ ap (λ l. take (at - 1 + 16) t ++ l) q)
+
 -- ZEROING
+
+pub zeroed-none : (t : List ℕ) → t ≡ zeroed 0 t
+unfolding zeroed
+zeroed-none t = refl
+
+pub zeroed-more : (n : ℕ) (t : List ℕ) → n < length t → set (zeroed n t) n 0 ≡ zeroed (n + 1) t
+unfolding zeroed
+zeroed-more n t h = fill_more n 0 t h
 
 -- what is zeroed depends only on what lies behind
 pub zeroed_rest : (n : ℕ) (a b : List ℕ) → drop n a ≡ drop n b → zeroed n a ≡ zeroed n b

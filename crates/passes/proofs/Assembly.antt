@@ -21,6 +21,10 @@ use Rattle.passes.specs.Assembly.Translated.{made, refused}
 
 -- THE CARDS
 
+pub stopped-one : (ss : List (List ℕ)) (number card : ℕ) → stopped number card ≡ pass_one 1 fresh ss → assembled ss ≡ refused number card
+unfolding assembled
+stopped-one ss number card e = ap (after_one ss) (sym e)
+
 pub through-one : (ss : List (List ℕ)) (st : State) → through st ≡ pass_one 1 fresh ss → assembled ss ≡ after_two ss st.names (check_two (find st.names) 1 outset ss)
 unfolding assembled
 through-one ss st e = ap (after_one ss) (sym e)

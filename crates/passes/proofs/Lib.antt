@@ -1,4 +1,5 @@
 -- The laws of the passes.
+pub mod Cases
 pub mod Turns
 pub mod Fine
 pub mod Names

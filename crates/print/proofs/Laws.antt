@@ -62,6 +62,16 @@ then-column m m₁ m₂ at p bs end vs a b c = then m m₁ m₂ at p (column bs 
 
 -- LINES
 
+pub offsets-none : (os : List ℕ) → length os ≡ 0 → offsets os ≡ 45 ∷ 32 ∷ []
+unfolding offsets
+offsets-none [] h = refl
+offsets-none (o ∷ os) h = absurd (omega arith)
+
+pub offsets-some : (os : List ℕ) → (length os ≡ 0 → ⊥) → offsets os ≡ column os 32
+unfolding offsets
+offsets-some [] h = absurd (h refl)
+offsets-some (o ∷ os) h = refl
+
 pub length_none : (count : ℕ) → count ≡ 0 → offsets_length count ≡ 2
 length_none count e = rw (eq-eqb count 0 e)
 

@@ -1,2 +1,3 @@
--- The laws of statements that other crates cite.
+-- The laws of statements that other crates cite, and the cases of their matches.
 pub mod Laws
+pub mod Cases

@@ -1,10 +1,11 @@
 -- Laws of names and terms.
-use Prim.Native.Nat.{ℕ, zero, suc, ◌+◌, ◌-◌, ◌<◌}
+use Prim.Native.Nat.{ℕ, zero, suc, ◌+◌, ◌-◌, ◌*◌, ◌≤◌, ◌<◌}
 use mathlib.Core.List.{List}
 use mathlib.Core.Path.{◌≡◌, refl}
 use mathlib.Core.Bool.{Bool, true, false}
-use native.Mathlib.Nat.{not-suc-le-zero}
+use native.Mathlib.Nat.{not-suc-le-zero, mul-le-mul}
 use native.Mathlib.Numerals.{sub-one}
+use native.Mathlib.Omega.{arith}
 use lib.Dec.{leb}
 use lib.ListN.{length, get_or}
 use Rattle.values.specs.Tests.{pick}
@@ -34,6 +35,17 @@ digits_over (suc n) base s at v l = rw l (go (digit_at base s at))
     go : (x : Bool) → pick x stopped stopped ≡ stopped
     go true = refl
     go false = refl
+
+pub digits_stop : (n base : ℕ) (s : List ℕ) (at v : ℕ) → digit_at base s at ≡ false → digits_from n base s at v ≡ record { value = v; next = at }
+unfolding digits_from
+digits_stop zero base s at v t = refl
+digits_stop (suc n) base s at v t = rw t
+
+-- a value of at most 65535 with a digit of a base of at most 16 behind it
+pub appended-fits : (v base : ℕ) → v ≤ 65535 → base ≤ 16 → v * base ≤ 1048560
+appended-fits v base h k =
+    let m : v * base ≤ 65535 * 16 = mul-le-mul {n₁ = v} {m₁ = base} {n₂ = 65535} {m₂ = 16} (omega arith) (omega arith) in
+    omega arith
 
 -- a character of a name, and one that starts a name, stand inside
 pub inside-name : (s : List ℕ) (at : ℕ) → goes_on_at s at ≡ true → at < length s

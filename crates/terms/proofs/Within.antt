@@ -1,11 +1,12 @@
 -- Where a term ends: behind its position and inside the columns; and how large its value and a name's number can be.
 use Prim.Native.Nat.{ℕ, zero, suc, ◌+◌, ◌*◌, ◌≤◌, ◌<◌, ◌^◌}
 use mathlib.Core.List.{List}
-use mathlib.Core.Path.{◌≡◌, refl, ap}
+use mathlib.Core.Path.{◌≡◌, refl, sym, ap}
 use mathlib.Core.Bool.{Bool, true, false}
 use native.Mathlib.Decide.{dec_le}
 use native.Mathlib.Omega.{arith}
-use borrow.Author.Tests.{ltb-true, leb-true, eqb-true, eqb-false}
+use native.Mathlib.Nat.{add-zero}
+use borrow.Author.Tests.{ltb-true, leb-true, eqb-true, eqb-false, lt-ltb}
 use lib.Dec.{ltb, leb, eqb}
 use lib.ListN.{length, get_or}
 use Rattle.values.specs.Tests.{pick}
@@ -13,14 +14,14 @@ use Rattle.letters.specs.Text.{stands}
 use Rattle.letters.specs.Letters.{class_of, goes_on_name, is_accepted, code_of, digit_of}
 use Rattle.letters.specs.declared.Class.{Class}
 use Rattle.letters.specs.declared.Class.TheVariants.{Letter, Digit, Sign, Blank, Refused}
-use Rattle.letters.proofs.Laws.{inside, inside-accepted, inside-digit, code_below, start_goes_on, class_zero}
+use Rattle.letters.proofs.Laws.{inside, inside-accepted, inside-digit, code_below, code_positive, name-accepted, start_goes_on, class_zero}
 use Rattle.terms.specs.declared.Digits.{Digits}
 use Rattle.terms.specs.declared.Quoted.{Quoted}
 use Rattle.terms.specs.declared.Quoted.TheVariants.{One, Closed}
 use Rattle.terms.specs.declared.Term.{Term}
 use Rattle.terms.specs.declared.Term.TheVariants.{Number, Symbol, Here}
 use Rattle.terms.specs.Names.{starts_at, goes_on_at, name_end, name_byte, name_codes, name_number, name_up_to, name_at}
-use Rattle.values.proofs.Laws.{Bytes, base256-same}
+use Rattle.values.proofs.Laws.{Bytes, base256-same, clash}
 use Rattle.letters.proofs.Runs.{run_more, run_bounds, run_inside}
 use Rattle.terms.specs.Terms.{digit_at, with_digit, digits_from, decimal_of, decimal_at, closed_at, numeral_of, numeral_at, hex_at, binary_at, quoted_at, second_of, first_of, characters_at, symbol_of, symbol_at, lettered_at, term_of, term_at}
 use Rattle.std.specs.Prelude.{Result, Ok, Err}
@@ -75,6 +76,10 @@ number-below s at end =
     let f = name-byte-below s at end 5 in
     omega arith
 
+number_positive : (s : List ℕ) (at end : ℕ) → 0 < name_byte s at end 0 → 0 < name_number s at end
+unfolding name_number
+number_positive s at end h = omega arith
+
 codes_below : (s : List ℕ) (at end : ℕ) → Bytes (name_codes s at end)
 codes_below s at end zero = name-byte-below s at end 0
 codes_below s at end (suc zero) = name-byte-below s at end 1
@@ -106,6 +111,28 @@ name-within s at = go (starts_at s at) refl
     go : (x : Bool) → starts_at s at ≡ x → NameWithin s at (pick x (name_up_to s at (name_end 6 s at)) (Err at))
     go true e = up (goes_on_at s (name_end 6 s at)) (name_end 6 s at) (end-behind s at e) (run_inside (λ b. goes_on_name (class_of b)) goes_on-zero 6 s at (end-behind s at e))
     go false e = (omega arith, λ l. l)
+
+-- no name has the number 0
+pub name_positive : (s : List ℕ) (at n next : ℕ) → name_at s at ≡ Ok (n, next) → 0 < n
+unfolding name_at name_byte
+name_positive s at n next e = go (starts_at s at) refl e
+  where
+    first : at < name_end 6 s at → is_accepted (class_of (get_or s at 0)) ≡ true → 0 < name_byte s at (name_end 6 s at) 0
+    first h a = rw (add-zero, lt-ltb at (name_end 6 s at) h) (code_positive (get_or s at 0) a)
+
+    up : (x : Bool) (end : ℕ) → 0 < name_byte s at end 0 → pick {X = Result (ℕ × ℕ) ℕ} x (Err end) (Ok ((name_number s at end), end)) ≡ Ok (n, next) → 0 < n
+    up true end h q = clash (cc)
+    up false end h q =
+        let same : ◌≡◌ {A = ℕ × ℕ} (name_number s at end, end) (n, next) = cc in
+        let f : n ≡ name_number s at end = sym (ap (λ x. x.0) same) in
+        rw f (number_positive s at end h)
+
+    go : (x : Bool) → starts_at s at ≡ x → pick {X = Result (ℕ × ℕ) ℕ} x (name_up_to s at (name_end 6 s at)) (Err at) ≡ Ok (n, next) → 0 < n
+    go true f q =
+        up (goes_on_at s (name_end 6 s at)) (name_end 6 s at)
+        (first (end-behind s at f) (name-accepted (class_of (get_or s at 0)) (start_goes_on (class_of (get_or s at 0)) f)))
+        q
+    go false f q = clash (cc)
 
 -- NUMBERS
 

@@ -36,7 +36,7 @@ module _ (d : ℕ) where
   raised_addend a = record { minus = a.minus; product = raised_product a.product }
 
   module _ (look : ℕ → Option Meaning) (here : ℕ) where
-    term_raised : (t : Term) → factor_of (raised_look d look) (here + d) t ≡ raised_factor (factor_of look here t)
+    pub term_raised : (t : Term) → factor_of (raised_look d look) (here + d) t ≡ raised_factor (factor_of look here t)
     term_raised (Term.Number v) = simp (mul-zero, add-zero)
     term_raised (Term.Symbol k) = go (look k)
       where
@@ -49,7 +49,7 @@ module _ (d : ℕ) where
         go None = simp (mul-zero, add-zero)
     term_raised Term.Here = simp mul-one
 
-    factor_raised : (t : Result (Term × ℕ) ℕ) → factor_at (raised_look d look) (here + d) t ≡ raised_factor (factor_at look here t)
+    pub factor_raised : (t : Result (Term × ℕ) ℕ) → factor_at (raised_look d look) (here + d) t ≡ raised_factor (factor_at look here t)
     factor_raised (Ok (t, q)) = term_raised t
     factor_raised (Err q) = simp (mul-zero, add-zero)
 
