@@ -1,6 +1,6 @@
 -- Laws of cards: a turn of each reader, and where the fields of a card lie.
 use Prim.Native.Nat.{ℕ, zero, suc, ◌+◌, ◌-◌, ◌≤◌, ◌<◌}
-use mathlib.Core.List.{List, [], ◌∷◌}
+use mathlib.Core.List.{List, [], ◌∷◌, ◌++◌}
 use mathlib.Core.Path.{◌≡◌, refl, ap, ◌∙◌}
 use mathlib.Core.Bool.{Bool, true, false, not}
 use native.Mathlib.Numerals.{add-one}
@@ -31,6 +31,15 @@ accepted_all (b ∷ bs) = step (is_accepted (class_of b)) (accepted_all bs)
     step : (x : Bool) {y z : Bool} → y ≡ z → x && y ≡ both x z
     step true e = e
     step false e = refl
+
+pub accepted_append : (s left : List ℕ) → all_accepted (s ++ left) ≡ both (all_accepted s) (all_accepted left)
+unfolding all_accepted
+accepted_append [] left = refl
+accepted_append (b ∷ bs) left = step (is_accepted (class_of b)) _ _ (accepted_append bs left)
+  where
+    step : (x u v : Bool) {y : Bool} → y ≡ both u v → both x y ≡ both (both x u) v
+    step true u v e = e
+    step false u v e = refl
 
 pub accepted-more : (s : List ℕ) (i : ℕ) → i < length s → is_accepted (class_of (get_or s i 0)) ≡ true → all_accepted (drop i s) ≡ all_accepted (drop (i + 1) s)
 unfolding all_accepted

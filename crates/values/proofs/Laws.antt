@@ -10,6 +10,8 @@ use native.Mathlib.Omega.{arith}
 use borrow.Rule.Slice.PartMut.{put_mid}
 use lib.ListN.{length, get_or, take, drop, set, length-append, length-take, length-drop, length-set, drop_of_length-le}
 use lib.Seq.{drop-cons, drop-drop, sets, sets-eq, get_or-take, get_or-drop, get_or-append-add, drop-append-add, set-append_left, length-take-le}
+use Rattle.std.specs.List.{list_all, fold}
+use Rattle.std.specs.Prelude.{◌&&◌}
 use Rattle.values.specs.Tests.{both}
 use Rattle.values.specs.Words.{word, long, base256, base256_on, four_bytes, part}
 
@@ -31,6 +33,13 @@ both_true false b e = clash (cc)
 pub held : {r : Bool} (a b : ℕ) → (b < a → r ≡ false) → r ≡ true → a ≤ b
 held a b n e =
     elim (dec_le a b) [ yes h ↦ h | no h ↦ let q = n (lt_of_not-le h) in clash (cc) ]
+
+-- a test of each item, with what was told before them
+pub all_fold : {A : Type 0} (test : A → Bool) (s : List A) (before : Bool) → fold (λ told b. told && test b) before s ≡ (before && list_all test s)
+all_fold test [] true = refl
+all_fold test [] false = refl
+all_fold test (b ∷ bs) true = all_fold test bs (test b)
+all_fold test (b ∷ bs) false = all_fold test bs false
 
 -- WORDS
 
