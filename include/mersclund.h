@@ -1,6 +1,6 @@
 /*
  * Mersclund: the assembler and loader for the IBM System/3.
- * Link with libmersclund.a, which is for x86-64.
+ * Link with libmersclund.a, which is for every x86-64 processor.
  *
  * Lent buffers. Every buffer is a pointer and a length in bytes, and stays the caller's.
  *  - The pointer is never null, not even for length 0: any other pointer will do there,
